@@ -1,0 +1,13 @@
+pub mod Pick
+pub mod Codes
+pub mod Types
+pub mod Rows
+pub mod Tree
+pub mod Formed
+pub mod Wrong
+pub mod Refusal
+pub mod Reading
+pub mod Formula
+pub mod Columns
+pub mod Bytes
+pub mod Equal

@@ -1,0 +1,79 @@
+-- Document 01: "Reading goes left to right. Within a formula the first of 1, 7, 9 in reading order is answered, the lower number at one node."
+use Prim.Native.Nat.{ℕ, zero, suc, _+_, _*_}
+use mathlib.Core.List.{List, [], _∷_}
+use mathlib.Core.Bool.{Bool, true, false, not}
+use mathlib.Core.Option.{Option, some, none}
+use lib.ListN.{length, getD, take, drop}
+use lib.Dec.{ltb, leb, eqb}
+use Rattle.formula.specs.Pick.{pick}
+use Rattle.formula.specs.Codes.{Code, codeAt, withNumber}
+use Rattle.formula.specs.Rows.{Row, rowOf, Number, nothing, identifier, index, word, count, variables, ownLength, countOut, indexOut, operands, sortOf, sortOfKinds, sortOfRest}
+use Rattle.formula.specs.Tree.{Tree, node, Trees, nil, _▹_}
+use Rattle.formula.specs.Formed.{inner}
+use Rattle.formula.specs.declared.Sort.{Sort}
+use Rattle.formula.specs.declared.Sort.the-variants as sort
+use Rattle.formula.specs.declared.Cause.{Cause}
+use Rattle.formula.specs.declared.Cause.the-variants as cause
+
+-- what was read and where it ends, or why not and the first byte of the node
+pub data Parsed (A : Type 0) : Type 0 where
+  got : A → ℕ → Parsed A
+  not-got : Cause → ℕ → Parsed A
+
+abbrev pub onGot : {A B : Type 0} → Parsed A → (A → ℕ → Parsed B) → Parsed B
+onGot (got a p) f = f a p
+onGot (not-got c p) f = not-got c p
+
+abbrev pub sameSort : Sort → Sort → Bool
+sameSort sort.Predicate sort.Predicate = true
+sameSort sort.Predicate sort.Expression = false
+sameSort sort.Expression sort.Predicate = false
+sameSort sort.Expression sort.Expression = true
+
+abbrev pub ofLE : List ℕ → ℕ
+ofLE [] = 0
+ofLE (b ∷ bs) = b + 256 * ofLE bs
+
+-- the number that stands at i
+abbrev pub numberAt : Number → List ℕ → ℕ → ℕ
+numberAt nothing s i = 0
+numberAt identifier s i = getD s i 0
+numberAt index s i = getD s i 0
+numberAt word s i = ofLE (take 8 (drop i s))
+numberAt (count lo) s i = getD s i 0
+numberAt variables s i = getD s i 0
+
+-- ---- the formula's bytes end before `limit`; t identifiers
+module _ (s : List ℕ) (t limit : ℕ) where
+  -- the own bytes of a node at `at` whose byte stands for the code, with l levels left and d variables bound outside:
+  -- 1 bytes end inside it; 7 unknown code, code of the other sort, count out of range, k ≥ t or i not enclosed; 9 level 33, or past the limit;
+  -- else its code and the number of its operands
+  abbrev pub ownBytes : (l d : ℕ) → Sort → ℕ → Option Code → Parsed Code
+  ownBytes l d σ at none = not-got cause.Code at
+  ownBytes l d σ at (some k) =
+      let n = numberAt (rowOf k .number) s (at + 1) in
+      pick (ltb (length s) (at + ownLength k)) (not-got cause.Short at)
+      (pick (not (sameSort (sortOf (rowOf k .result)) σ)) (not-got cause.Code at)
+      (pick (countOut (rowOf k .number) n) (not-got cause.Count at)
+      (pick (indexOut (rowOf k .number) n t d) (not-got cause.Index at)
+      (pick (eqb l 0) (not-got cause.Deep at)
+      (pick (ltb limit (at + ownLength k)) (not-got cause.Long at)
+      (got (withNumber k n) (operands (rowOf k .arity) n)))))))
+
+  unfoldable pub nodeAt : (l d : ℕ) → Sort → ℕ → Parsed Code
+  nodeAt l d σ at = pick (leb (length s) at) (not-got cause.Short at) (ownBytes l d σ at (codeAt (getD s at 0)))
+
+-- n operands one after the other, the first of the sort σ and the others of the sort ρ, each read by f
+unfoldable pub operandsBy : (Sort → ℕ → Parsed Tree) → ℕ → Sort → Sort → ℕ → Parsed Trees
+operandsBy f zero σ ρ at = got nil at
+operandsBy f (suc n) σ ρ at = onGot (f σ at) (λ x p. onGot (operandsBy f n ρ ρ p) (λ xs q. got (x ▹ xs) q))
+
+-- a node and its operands, each formula below it read by f under so many bound variables
+unfoldable pub nodeBy : (ℕ → Sort → ℕ → Parsed Tree) → ℕ → ℕ → Parsed Code → Parsed Tree
+nodeBy f d at h =
+    onGot h (λ k n. onGot (operandsBy (f (inner d k n)) n (sortOfKinds (rowOf k .first)) (sortOfRest (rowOf k .rest)) (at + ownLength k)) (λ xs q. got (node k xs) q))
+
+-- a formula of the sort σ at `at`, of at most l levels, under d bound variables
+unfoldable pub formulaAt : List ℕ → ℕ → ℕ → (l d : ℕ) → Sort → ℕ → Parsed Tree
+formulaAt s t limit zero d σ at = nodeBy (λ d σ p. not-got cause.Deep p) d at (nodeAt s t limit 0 d σ at)
+formulaAt s t limit (suc l) d σ at = nodeBy (formulaAt s t limit l) d at (nodeAt s t limit (suc l) d σ at)
