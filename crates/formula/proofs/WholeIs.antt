@@ -17,7 +17,7 @@ use Rattle.formula.specs.Wrong.{headType, firstWrong}
 use Rattle.formula.specs.Columns.{bit, sortMask, rootRow, field, first, rest}
 use Rattle.formula.specs.Bytes.{onHead, onRead, headAt, belowAt, readList, listWith, nextWant, unlike, badAfter, endOf, readingOf, readWhole}
 use Rattle.formula.specs.Reading.{Parsed, got, not-got, formulaAt}
-use Rattle.formula.specs.Formula.{typed?, asked8, readFormula}
+use Rattle.formula.specs.Formula.{typed?, asked8, treeAt, endOrRefusal, readFormula}
 use Rattle.formula.specs.declared.Sort.{Sort}
 use Rattle.formula.specs.declared.Sort.the-variants as sorts
 use Rattle.formula.specs.declared.Cause.the-variants as cause
@@ -51,9 +51,9 @@ root-may : (τ : Ty) → among? (kindOf τ) (rootKinds (sortOfTy τ)) ≡ true
 root-may (base b) = elim b [ prop ↦ refl | int ↦ refl | boo ↦ refl | set ↦ refl | nats ↦ refl | nats1 ↦ refl ]
 root-may (pair a b) = refl
 
-marked-reading : (o : Option ℕ) (q : ℕ) → readingOf (gives q (markOf o)) ≡ typed? o q
-marked-reading none q = refl
-marked-reading (some p) q =
+marked-reading : (x : Tree) (o : Option ℕ) (q : ℕ) → readingOf (gives q (markOf o)) ≡ endOrRefusal (typed? x q o)
+marked-reading x none q = refl
+marked-reading x (some p) q =
     let e : p + 1 - 1 ≡ p = omega arith in
     simp (ne-eqb (p + 1) 0 (λ z. omega (arith, z))) (ap (λ (v : ℕ). reading.Refused (record { cause = cause.Type; at = v })) e)
 
@@ -84,9 +84,9 @@ module _ (s types : List ℕ) (σ : Sort) (start : ℕ) where
 
   -- THE BRIDGE
   pub whole-is : (z : Reading) → z ≡ readWhole s types σ start → z ≡ readFormula s types σ start
-  unfolding readWhole readFormula
+  unfolding readWhole readFormula treeAt
   whole-is z e = e ∙ ap readingOf whole-read ∙ go (formulaAt s (length types) (start + 1024) 32 0 σ start)
     where
-      go : (y : Parsed Tree) → readingOf (answered y (λ x q. gives q (markOf (firstWrong (typesOf types) start x)))) ≡ asked8 (typesOf types) start y
-      go (got x q) = marked-reading (firstWrong (typesOf types) start x) q
+      go : (y : Parsed Tree) → readingOf (answered y (λ x q. gives q (markOf (firstWrong (typesOf types) start x)))) ≡ endOrRefusal (asked8 (typesOf types) start y)
+      go (got x q) = marked-reading x (firstWrong (typesOf types) start x) q
       go (not-got c p) = refl

@@ -17,18 +17,26 @@ use Rattle.formula.specs.declared.Reading.the-variants as reading
 use Rattle.formula.specs.declared.Outcome.{Outcome}
 use Rattle.formula.specs.declared.Outcome.the-variants as outcome
 
--- "only a formula without these is asked 8"
-abbrev pub typed? : Option ℕ → ℕ → Reading
-typed? none end = reading.Read end
-typed? (some p) end = reading.Refused (record { cause = cause.Type; at = p })
+-- "Only a formula without these is asked 8, at the first node in prefix order whose direct operand is wrong"
+abbrev pub typed? : Tree → ℕ → Option ℕ → Parsed Tree
+typed? x end none = got x end
+typed? x end (some p) = not-got cause.Type p
 
-abbrev pub asked8 : List Ty → ℕ → Parsed Tree → Reading
-asked8 Γ start (got x end) = typed? (firstWrong Γ start x) end
-asked8 Γ start (not-got c at) = reading.Refused (record { cause = c; at = at })
+abbrev pub asked8 : List Ty → ℕ → Parsed Tree → Parsed Tree
+asked8 Γ start (got x end) = typed? x end (firstWrong Γ start x)
+asked8 Γ start (not-got c at) = not-got c at
 
--- a formula of the sort σ from `start` on: at most 1,024 bytes and 32 levels (root is level 1)
+-- the formula of the sort σ from `start` on: at most 1,024 bytes and 32 levels (root is level 1)
+unfoldable pub treeAt : List ℕ → List ℕ → Sort → ℕ → Parsed Tree
+treeAt s types σ start = asked8 (typesOf types) start (formulaAt s (length types) (start + 1024) 32 0 σ start)
+
+-- where it ends, or why it is refused
+abbrev pub endOrRefusal : Parsed Tree → Reading
+endOrRefusal (got x end) = reading.Read end
+endOrRefusal (not-got c at) = reading.Refused (record { cause = c; at = at })
+
 unfoldable pub readFormula : List ℕ → List ℕ → Sort → ℕ → Reading
-readFormula s types σ start = asked8 (typesOf types) start (formulaAt s (length types) (start + 1024) 32 0 σ start)
+readFormula s types σ start = endOrRefusal (treeAt s types σ start)
 
 -- its end, or document 01's number and place
 unfoldable pub said : ℕ → Reading → Outcome
