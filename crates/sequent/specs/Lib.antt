@@ -1,0 +1,9 @@
+pub mod Sequent
+pub mod File
+pub mod Accepted
+pub mod Refusal
+pub mod ReadFile
+pub mod Lent
+pub mod Acts
+pub mod Outcome
+pub mod Desk

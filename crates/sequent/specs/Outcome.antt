@@ -1,0 +1,77 @@
+-- What each public function answers, and what it leaves in the lent buffer.
+use Prim.Native.Nat.{ℕ, zero, suc}
+use mathlib.Core.List.{List, [], _∷_, _++_}
+use mathlib.Core.Bool.{Bool, true, false, not, _||_}
+use lib.ListN.{length, drop}
+use lib.Dec.{ltb}
+use Rattle.formula.specs.Pick.{pick}
+use Rattle.formula.specs.Tree.{Tree}
+use Rattle.formula.specs.declared.Said.{Said}
+use Rattle.sequent.specs.Sequent.{Flag, Hypothesis, Sequent, isHidden, isSelected, isVisible, countOf}
+use Rattle.sequent.specs.File.{encodeSequent}
+use Rattle.sequent.specs.Refusal.{saidOf}
+use Rattle.sequent.specs.ReadFile.{Seen, seen, not-seen, readSequent}
+use Rattle.sequent.specs.Lent.{lentPredicate, lentList}
+use Rattle.sequent.specs.Acts.{Acted, flagAct, modify, allAmong, forward, rewrite}
+use Rattle.sequent.specs.declared.Why.the-variants as why
+use Rattle.sequent.specs.declared.Counted.{Counted}
+use Rattle.sequent.specs.declared.Counted.the-variants as counted
+use Rattle.sequent.specs.declared.Done.{Done}
+use Rattle.sequent.specs.declared.Done.the-variants as done
+
+-- the bytes to write and "changed", or a refusal
+pub data Outcome : Type 0 where
+  writes : Bool → List ℕ → Outcome
+  refuses : Said → Outcome
+
+-- what the function answers
+abbrev pub answerOf : Outcome → Done
+answerOf (writes b bytes) = done.Changed b (length bytes)
+answerOf (refuses z) = done.Refused z
+
+-- "A refusal is the number and a byte place; no output byte changes. A success writes its stated length; later bytes keep their old contents."
+abbrev pub written : Outcome → List ℕ → List ℕ
+written (writes b bytes) out = bytes ++ drop (length bytes) out
+written (refuses z) out = out
+
+-- a buffer read: what to go on with, or its refusal
+abbrev pub onBuffer : {A : Type 0} → List ℕ → Seen A → (A → Outcome) → Outcome
+onBuffer b (seen a e) k = k a
+onBuffer b (not-seen w p) k = refuses (saidOf w p (length b))
+
+-- "14: result has over 64 hypotheses, over 60,000 bytes, or exceeds a lent buffer"; "14 is last"
+unfoldable pub noRoom : ℕ → Sequent → Bool
+noRoom room q = ltb 64 (length (q .hypotheses)) || (ltb 60000 (length (encodeSequent q)) || ltb room (length (encodeSequent q)))
+
+unfoldable pub finish : ℕ → Acted → Outcome
+finish room a = pick (noRoom room (a .sequent)) (refuses (saidOf why.Room 0 0)) (writes (a .changed) (encodeSequent (a .sequent)))
+
+-- ---- the acts: "Sequents are read before formulas lent with an act, formulas in lent order, then the act's own checks; 14 is last."
+unfoldable pub flagOutcome : (Flag → Flag) → List ℕ → List ℕ → ℕ → Outcome
+flagOutcome f s b room = onBuffer s (readSequent s) (λ q. onBuffer b (lentPredicate (q .types) b) (λ x. finish room (flagAct f x q)))
+
+-- a list of the sequent's identifiers
+abbrev pub onList : Sequent → ℕ → List ℕ → (List Tree → Outcome) → Outcome
+onList q most b k = onBuffer b (lentList (q .types) most b) k
+
+unfoldable pub modifyOutcome : List ℕ → List ℕ → List ℕ → List ℕ → ℕ → Outcome
+modifyOutcome s a u g room =
+    onBuffer s (readSequent s) (λ q. onList q 64 a (λ added. onList q 64 u (λ unselected. onList q 1 g (λ goal.
+    pick (allAmong unselected added) (finish room (modify added unselected goal q)) (refuses (saidOf why.NotAdded 0 0))))))
+
+unfoldable pub forwardOutcome : List ℕ → List ℕ → List ℕ → ℕ → Outcome
+forwardOutcome s a b room =
+    onBuffer s (readSequent s) (λ q. onList q 64 a (λ sources. onList q 64 b (λ inferred. finish room (forward sources inferred q))))
+
+unfoldable pub rewriteOutcome : List ℕ → List ℕ → List ℕ → List ℕ → ℕ → Outcome
+rewriteOutcome s a b c room =
+    onBuffer s (readSequent s) (λ q. onList q 64 a (λ sources. onList q 64 b (λ inferred. onList q 64 c (λ toHide. finish room (rewrite sources inferred toHide q)))))
+
+-- ---- "Reading a sequent also answers how many are hidden, selected and visible."
+abbrev pub countsOf : List ℕ → Seen Sequent → Counted
+countsOf s (seen q e) =
+    counted.Counts (record { hidden = countOf isHidden (q .hypotheses); selected = countOf isSelected (q .hypotheses); visible = countOf isVisible (q .hypotheses) })
+countsOf s (not-seen w p) = counted.Refused (saidOf w p (length s))
+
+unfoldable pub readOutcome : List ℕ → Counted
+readOutcome s = countsOf s (readSequent s)
