@@ -1,0 +1,13 @@
+pub mod Bytes
+pub mod Apart
+pub mod Formulas
+pub mod SeenIs
+pub mod FileRead
+pub mod FileBack
+pub mod FileIs
+pub mod LentAre
+pub mod Grown
+pub mod ActsKeep
+pub mod FlagsAre
+pub mod ChangedIs
+pub mod CountsAre
