@@ -7,3 +7,6 @@ pub mod Lent
 pub mod Acts
 pub mod Outcome
 pub mod Desk
+pub mod ReadBytes
+pub mod Masks
+pub mod DeskBytes

@@ -1,6 +1,17 @@
 // Sequents of document 01: the file, flags, and the acts on hypotheses (sequent.rs).
+pub mod buffer;
+pub mod desk;
+pub mod file;
+pub mod mask;
+pub mod refusal;
+
+ghost use mathlib.Core.Path.{_≡_};
+ghost use Rattle.formula.specs.Columns.{table};
+ghost use Rattle.sequent.specs.Outcome.{readOutcome};
+use file::open;
 use formula::Cause;
 use formula::Said;
+use formula::table::TABLE;
 
 // Why a sequent, a lent buffer or an act is refused.
 pub enum Why {
@@ -66,4 +77,63 @@ pub enum Listed {
 pub enum Appended {
     Done(View),
     NoRoom,
+}
+
+// A refusal by its cause; `at` is its place, unless the cause says another.
+pub struct Stop {
+    pub why: Why,
+    pub at: usize,
+}
+
+// A part of a file without fault, or its refusal.
+pub enum Checked {
+    Fine,
+    Stopped(Stop),
+}
+
+// A formula's end, or its refusal.
+pub enum Ended {
+    At(usize),
+    Stopped(Stop),
+}
+
+// A hypothesis' flag byte and its end, or its refusal.
+pub enum Item {
+    Read(u8, usize),
+    Stopped(Stop),
+}
+
+// A sequent as far as it is read, or its refusal.
+pub enum Stage {
+    Read(View),
+    Stopped(Stop),
+}
+
+// The flags of a sequent, counted; with room for its places.
+fn count_flags(s: &[u8], rows: &[u64; 51], places: &mut [usize; 65]) -> Counted
+    requires { ⌜ now rows ≡ table ⌝ }
+    ensures { λ r. ⌜ r ≡ readOutcome (now (s .entry)) ⌝ }
+{
+    let r = open(s, rows, places);
+    match r {
+        Opened::Refused(z) => Counted::Refused(z),
+        Opened::Read(v) => {
+            let hidden = u64::count_ones(v.hidden) as usize;
+            let selected = u64::count_ones(v.selected) as usize;
+            Counted::Counts(Counts {
+                hidden: hidden,
+                selected: selected,
+                visible: v.h - hidden,
+            })
+        }
+    }
+}
+
+// Reads a sequent file, and answers how many hypotheses are hidden, selected and visible.
+pub fn read(s: &[u8]) -> Counted
+    ensures { λ r. ⌜ r ≡ readOutcome (now (s .entry)) ⌝ }
+{
+    let rows = TABLE;
+    let mut places = [0usize; 65];
+    count_flags(s, &rows, &mut places)
 }

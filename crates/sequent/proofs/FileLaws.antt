@@ -1,0 +1,289 @@
+-- The cases of the file reader's definitions.
+use Prim.Native.Nat.{ℕ, zero, suc, _+_, _-_, _*_, _%_, _^_, _<_, _≤_}
+use mathlib.Core.Path.{_≡_, refl, sym, ap, _∙_}
+use mathlib.Core.Bool.{Bool, true, false, not, _||_}
+use mathlib.Core.List.{List, [], _∷_}
+use native.Mathlib.Nat.{one-mul, mod-eq-of-lt}
+use native.Mathlib.Numerals.{sub-one}
+use native.Mathlib.Omega.{arith}
+use lib.ListN.{length, getD}
+use lib.Dec.{ltb, eqb}
+use lib.Bits.{bitOr}
+use lib.Pow.{pow-lt}
+use borrow.Author.Tests.{le-ltb, lt-ltb, le-leb, lt-leb, eq-eqb, ne-eqb, ltb-false}
+use mir.Syntax.{w8}
+use mir.Val.{Fits}
+use Rattle.formula.specs.Pick.{pick}
+use Rattle.formula.specs.Tree.{Tree}
+use Rattle.formula.specs.Equal.{sameAt}
+use Rattle.formula.specs.Refusal as F
+use Rattle.formula.specs.Reading.{Parsed, got, not-got}
+use Rattle.formula.specs.Formula.{treeAt, endOrRefusal, readFormula}
+use Rattle.formula.specs.declared.Refusal.{Refusal}
+use Rattle.formula.specs.declared.Cause.{Cause}
+use Rattle.formula.specs.declared.Reading.{Reading}
+use Rattle.formula.specs.declared.Reading.the-variants as reading
+use Rattle.formula.specs.declared.Sort.the-variants as sort
+use Rattle.formula.proofs.Places.{AllBytes}
+use Rattle.sequent.specs.Refusal.{number, placeOf, saidOf}
+use Rattle.sequent.specs.ReadFile.{Seen, seen, not-seen, onSeen, fromParsed, predicateAt, typesAt, badMark, badVersion, badNumbers}
+use Rattle.sequent.specs.Lent.{toEnd}
+use Rattle.sequent.specs.ReadBytes.{stop, checkOf, endOf, headerAt, hasFormula, twiceFrom, itemAt, withHypothesis}
+use Rattle.sequent.specs.declared.Why.{Why}
+use Rattle.sequent.specs.declared.Why.the-variants as why
+use Rattle.sequent.specs.declared.Stop.{Stop}
+use Rattle.sequent.specs.declared.View.{View}
+use Rattle.sequent.specs.declared.Checked.{Checked}
+use Rattle.sequent.specs.declared.Checked.the-variants as checked
+use Rattle.sequent.specs.declared.Ended.{Ended}
+use Rattle.sequent.specs.declared.Ended.the-variants as ended
+use Rattle.sequent.specs.declared.Item.the-variants as item
+use Rattle.sequent.proofs.Apart.{or-false}
+
+-- ---- refusals
+pub said-by : (w : Why) (at len n p : ℕ) → n ≡ number w → p ≡ placeOf w at len → record { number = n; place = p } ≡ saidOf w at len
+unfolding saidOf
+said-by w at len n p e f = rw (e, f) refl
+
+pub place-inside : (w : Why) (c : Cause) (at len p : ℕ) → w ≡ why.Formula c → p ≡ F.placeOf c at len → p ≡ placeOf w at len
+place-inside w c at len p e f = f ∙ ap (λ (v : Why). placeOf v at len) (sym e)
+
+-- a slice of bytes, from each of them
+pub all-bytes : (s : List ℕ) → ((i : ℕ) → Fits w8 (getD s i 0)) → AllBytes s
+all-bytes [] h = tt
+all-bytes (b ∷ s) h = (h 0 .fits, all-bytes s (λ i. h (suc i)))
+
+-- ---- the header
+module _ (len : ℕ) where
+  pub length-short : len < 8 → true ≡ (ltb len 8 || ltb 60000 len)
+  length-short h = simp (lt-ltb _ _ h)
+
+  pub length-long : 8 ≤ len → ltb 60000 len ≡ (ltb len 8 || ltb 60000 len)
+  length-long h = simp (le-ltb _ _ h)
+
+module _ (s : List ℕ) where
+  pub mark-first : (getD s 0 0 ≡ 0x53 → ⊥) → true ≡ badMark s
+  mark-first h = simp (ne-eqb _ _ h)
+
+  pub mark-second : getD s 0 0 ≡ 0x53 → (getD s 1 0 ≡ 0x51 → ⊥) → true ≡ badMark s
+  mark-second h k = simp (eq-eqb _ _ h, ne-eqb _ _ k)
+
+  pub mark-third : getD s 0 0 ≡ 0x53 → getD s 1 0 ≡ 0x51 → not (eqb (getD s 2 0) 0x54) ≡ badMark s
+  mark-third h k = simp (eq-eqb _ _ h, eq-eqb _ _ k)
+
+  pub version-first : (getD s 3 0 ≡ 1 → ⊥) → true ≡ badVersion s
+  version-first h = simp (ne-eqb _ _ h)
+
+  pub version-second : getD s 3 0 ≡ 1 → not (eqb (getD s 4 0) 0) ≡ badVersion s
+  version-second h = simp (eq-eqb _ _ h)
+
+  pub numbers-types : 64 < getD s 5 0 → true ≡ badNumbers s
+  numbers-types h = simp (lt-ltb _ _ h)
+
+  pub numbers-hypotheses : getD s 5 0 ≤ 64 → 64 < getD s 6 0 → true ≡ badNumbers s
+  numbers-hypotheses h k = simp (le-ltb _ _ h, lt-ltb _ _ k)
+
+  pub numbers-last : getD s 5 0 ≤ 64 → getD s 6 0 ≤ 64 → not (eqb (getD s 7 0) 0) ≡ badNumbers s
+  numbers-last h k = simp (le-ltb _ _ h, le-ltb _ _ k)
+
+pub ruleset headerBytes = (length-short, length-long, mark-first, mark-second, mark-third, version-first, version-second, numbers-types, numbers-hypotheses, numbers-last)
+
+module _ (s : List ℕ) (b : Bool) (b≡ : b ≡ (ltb (length s) 8 || ltb 60000 (length s))) where
+  pub header-length : b ≡ true → checked.Stopped (stop why.Length 0) ≡ headerAt s
+  unfolding headerAt
+  header-length h = simp (← b≡, h)
+
+  module _ (h : b ≡ false) where
+    pub header-long : 8 ≤ length s
+    header-long = ltb-false _ _ (or-false (ltb (length s) 8) (ltb 60000 (length s)) (sym b≡ ∙ h) .0)
+
+    module _ (c : Bool) (c≡ : c ≡ badMark s) where
+      pub header-mark : c ≡ true → checked.Stopped (stop why.Mark 0) ≡ headerAt s
+      unfolding headerAt
+      header-mark k = simp (← b≡, h, ← c≡, k)
+
+      module _ (k : c ≡ false) (d : Bool) (d≡ : d ≡ badVersion s) where
+        pub header-version : d ≡ true → checked.Stopped (stop why.Version 3) ≡ headerAt s
+        unfolding headerAt
+        header-version l = simp (← b≡, h, ← c≡, k, ← d≡, l)
+
+        module _ (l : d ≡ false) (e : Bool) (e≡ : e ≡ badNumbers s) where
+          pub header-numbers : e ≡ true → checked.Stopped (stop why.Header 5) ≡ headerAt s
+          unfolding headerAt
+          header-numbers m = simp (← b≡, h, ← c≡, k, ← d≡, l, ← e≡, m)
+
+          pub header-fine : e ≡ false → checked.Fine ≡ headerAt s
+          unfolding headerAt
+          header-fine m = simp (← b≡, h, ← c≡, k, ← d≡, l, ← e≡, m)
+
+pub ruleset headers = (header-length, header-long, header-mark, header-version, header-numbers, header-fine)
+
+-- ---- type bytes
+check-rest : {A B : Type 0} (z : Seen A) (f : A → ℕ → B) → checkOf (onSeen z (λ a p. seen (f a p) p)) ≡ checkOf z
+check-rest (seen a p) f = refl
+check-rest (not-seen w p) f = refl
+
+module _ (s : List ℕ) (p : ℕ) (z : Checked) where
+  pub types-end : (n : ℕ) → checkOf (typesAt s n p) ≡ z → n ≡ 0 → checked.Fine ≡ z
+  unfolding typesAt
+  types-end zero e h = e
+  types-end (suc n) e h = absurd (omega (arith, h))
+
+  pub types-out : (n : ℕ) → checkOf (typesAt s n p) ≡ z → (n ≡ 0 → ⊥) → length s ≤ p → checked.Stopped (stop why.Length p) ≡ z
+  unfolding typesAt
+  types-out zero e h k = absurd (h refl)
+  types-out (suc n) e h k = simp (le-leb _ _ k) at e
+
+  pub types-wrong : (n : ℕ) → checkOf (typesAt s n p) ≡ z → (n ≡ 0 → ⊥) → p < length s → 2 < getD s p 0 → checked.Stopped (stop why.TypeByte p) ≡ z
+  unfolding typesAt
+  types-wrong zero e h k l = absurd (h refl)
+  types-wrong (suc n) e h k l = simp (lt-leb _ _ k, lt-ltb _ _ l) at e
+
+  pub types-go : (n : ℕ) → checkOf (typesAt s n p) ≡ z → (n ≡ 0 → ⊥) → p < length s → getD s p 0 ≤ 2 → checkOf (typesAt s (n - 1) (p + 1)) ≡ z
+  unfolding typesAt
+  types-go zero e h k l = absurd (h refl)
+  types-go (suc n) e h k l = rw (sub-one (suc n)) (sym (check-rest (typesAt s n (p + 1)) (λ ts q. getD s p 0 ∷ ts)) ∙ (simp (lt-leb _ _ k, le-ltb _ _ l) at e))
+
+pub ruleset typeBytes = (types-end, types-out, types-wrong, types-go)
+
+-- ---- a predicate
+module _ (s types : List ℕ) (p : ℕ) (r : Reading) (r≡ : r ≡ readFormula s types sort.Predicate p) where
+  abbrev endOfReading : Reading → Ended
+  endOfReading (reading.Read e) = ended.At e
+  endOfReading (reading.Refused x) = ended.Stopped (stop (why.Formula (x .cause)) (x .at))
+
+  reading-ends : endOfReading r ≡ endOf (predicateAt s types p)
+  unfolding predicateAt readFormula
+  reading-ends = ap endOfReading r≡ ∙ go (treeAt s types sort.Predicate p)
+    where
+      go : (z : Parsed Tree) → endOfReading (endOrRefusal z) ≡ endOf (fromParsed z)
+      go (got x e) = refl
+      go (not-got c q) = refl
+
+  pub predicate-ends : (e : ℕ) → r ≡ reading.Read e → ended.At e ≡ endOf (predicateAt s types p)
+  predicate-ends e q = sym (ap endOfReading q) ∙ reading-ends
+
+  pub predicate-stops : (x : Refusal) (c : Cause) → r ≡ reading.Refused x → c ≡ x .cause → ended.Stopped (stop (why.Formula c) (x .at)) ≡ endOf (predicateAt s types p)
+  predicate-stops x c q e = ap (λ (d : Cause). ended.Stopped (stop (why.Formula d) (x .at))) e ∙ sym (ap endOfReading q) ∙ reading-ends
+
+pub ruleset predicates = (predicate-ends, predicate-stops)
+
+-- .. with nothing after it
+abbrev lastOf : ℕ → Ended → Checked
+lastOf len (ended.At e) = pick (ltb e len) (checked.Stopped (stop why.After e)) checked.Fine
+lastOf len (ended.Stopped x) = checked.Stopped x
+
+pub last-of : {A : Type 0} (b : List ℕ) (z : Seen A) → lastOf (length b) (endOf z) ≡ checkOf (toEnd b z)
+last-of b (not-seen w p) = refl
+last-of b (seen a e) = go (ltb e (length b))
+  where
+    go : (t : Bool) → pick t (checked.Stopped (stop why.After e)) checked.Fine ≡ checkOf (pick t (not-seen why.After e) (seen a e))
+    go true = refl
+    go false = refl
+
+module _ {A : Type 0} (b : List ℕ) (z : Seen A) (r : Ended) (r≡ : r ≡ endOf z) where
+  pub last-stops : (x : Stop) → r ≡ ended.Stopped x → checked.Stopped x ≡ checkOf (toEnd b z)
+  last-stops x q = sym (ap (lastOf (length b)) q) ∙ ap (lastOf (length b)) r≡ ∙ last-of b z
+
+  pub last-more : (e : ℕ) → r ≡ ended.At e → e < length b → checked.Stopped (stop why.After e) ≡ checkOf (toEnd b z)
+  last-more e q h = simp (lt-ltb _ _ h) at (sym (ap (lastOf (length b)) q) ∙ ap (lastOf (length b)) r≡ ∙ last-of b z)
+
+  pub last-fine : (e : ℕ) → r ≡ ended.At e → length b ≤ e → checked.Fine ≡ checkOf (toEnd b z)
+  last-fine e q h = simp (le-ltb _ _ h) at (sym (ap (lastOf (length b)) q) ∙ ap (lastOf (length b)) r≡ ∙ last-of b z)
+
+pub ruleset lasts = (last-stops, last-more, last-fine)
+
+-- ---- one of the earlier hypotheses
+module _ (s : List ℕ) (p q a e : ℕ) where
+  pub has-none : q ≤ p → false ≡ hasFormula s p q a e
+  unfolding hasFormula
+  has-none h = simp (le-leb _ _ h)
+
+  module _ (h : p < q) where
+    pub has-out : length s < q → false ≡ hasFormula s p q a e
+    unfolding hasFormula
+    has-out k = simp (lt-leb _ _ h, lt-ltb _ _ k)
+
+    module _ (k : q ≤ length s) where
+      pub has-no : e < a → false ≡ hasFormula s p q a e
+      unfolding hasFormula
+      has-no l = simp (lt-leb _ _ h, le-ltb _ _ k, lt-ltb _ _ l)
+
+      module _ (l : a ≤ e) where
+        pub has-past : length s < e → false ≡ hasFormula s p q a e
+        unfolding hasFormula
+        has-past m = simp (lt-leb _ _ h, le-ltb _ _ k, le-ltb _ _ l, lt-ltb _ _ m)
+
+        module _ (m : e ≤ length s) where
+          pub has-other : (q - p - 1 ≡ e - a → ⊥) → false ≡ hasFormula s p q a e
+          unfolding hasFormula
+          has-other n = simp (lt-leb _ _ h, le-ltb _ _ k, le-ltb _ _ l, le-ltb _ _ m, ne-eqb _ _ n)
+
+          pub has-bytes : (b : Bool) → q - p - 1 ≡ e - a → b ≡ sameAt (e - a) s (p + 1) s a → b ≡ hasFormula s p q a e
+          unfolding hasFormula
+          has-bytes b n b≡ = b≡ ∙ simp (lt-leb _ _ h, le-ltb _ _ k, le-ltb _ _ l, le-ltb _ _ m, eq-eqb _ _ n)
+
+pub ruleset have = (has-none, has-out, has-no, has-past, has-other, has-bytes)
+
+module _ (s places : List ℕ) (j a e : ℕ) (z : Bool) where
+  pub twice-end : (n : ℕ) → twiceFrom s places n j a e ≡ z → n ≡ 0 → false ≡ z
+  unfolding twiceFrom
+  twice-end zero q h = q
+  twice-end (suc n) q h = absurd (omega (arith, h))
+
+  module _ (b : Bool) (b≡ : b ≡ hasFormula s (getD places j 0) (getD places (j + 1) 0) a e) where
+    pub twice-here : (n : ℕ) → twiceFrom s places n j a e ≡ z → (n ≡ 0 → ⊥) → b ≡ true → true ≡ z
+    unfolding twiceFrom
+    twice-here zero q h k = absurd (h refl)
+    twice-here (suc n) q h k = simp (← b≡, k) at q
+
+    pub twice-goes : (n : ℕ) → twiceFrom s places n j a e ≡ z → (n ≡ 0 → ⊥) → b ≡ false → twiceFrom s places (n - 1) (j + 1) a e ≡ z
+    unfolding twiceFrom
+    twice-goes zero q h k = absurd (h refl)
+    twice-goes (suc n) q h k = rw (sub-one (suc n)) (simp (← b≡, k) at q)
+
+pub ruleset twices = (twice-end, twice-here, twice-goes)
+
+-- ---- a hypothesis
+module _ (s types places : List ℕ) (i p : ℕ) where
+  pub item-out : length s ≤ p → item.Stopped (stop why.Length p) ≡ itemAt s types places i p
+  unfolding itemAt
+  item-out h = simp (le-leb _ _ h)
+
+  module _ (h : p < length s) where
+    pub item-flag : 2 < getD s p 0 → item.Stopped (stop why.FlagByte p) ≡ itemAt s types places i p
+    unfolding itemAt
+    item-flag k = simp (lt-leb _ _ h, lt-ltb _ _ k)
+
+    module _ (k : getD s p 0 ≤ 2) (r : Ended) (r≡ : r ≡ endOf (predicateAt s types (p + 1))) where
+      pub item-stops : (x : Stop) → r ≡ ended.Stopped x → item.Stopped x ≡ itemAt s types places i p
+      unfolding itemAt
+      item-stops x q = simp (lt-leb _ _ h, le-ltb _ _ k, ← r≡, q)
+
+      module _ (e : ℕ) (q : r ≡ ended.At e) (b : Bool) (b≡ : b ≡ twiceFrom s places i 0 (p + 1) e) where
+        pub item-twice : b ≡ true → item.Stopped (stop why.Twice (p + 1)) ≡ itemAt s types places i p
+        unfolding itemAt
+        item-twice l = simp (lt-leb _ _ h, le-ltb _ _ k, ← r≡, q, ← b≡, l)
+
+        pub item-read : b ≡ false → item.Read (getD s p 0) e ≡ itemAt s types places i p
+        unfolding itemAt
+        item-read l = simp (lt-leb _ _ h, le-ltb _ _ k, ← r≡, q, ← b≡, l)
+
+pub ruleset items = (item-out, item-flag, item-stops, item-twice, item-read)
+
+-- ---- masks
+pub shifted-one : (i : ℕ) → i < 64 → (1 * 2 ^ i) % 2 ^ 64 ≡ 2 ^ i
+shifted-one i h = ap (λ (n : ℕ). n % 2 ^ 64) (one-mul (2 ^ i)) ∙ mod-eq-of-lt (pow-lt h)
+
+module _ (m i : ℕ) (on : Bool) where
+  pub bit-on : i < 64 → on ≡ true → bitOr m ((1 * 2 ^ i) % 2 ^ 64) ≡ pick on (bitOr m (2 ^ i)) m
+  bit-on h e = rw (shifted-one i h, e) refl
+
+  pub bit-off : on ≡ false → m ≡ pick on (bitOr m (2 ^ i)) m
+  bit-off e = rw e refl
+
+pub with-hypothesis : (v : View) (b e i m n : ℕ) → i ≡ v .h → m ≡ pick (eqb b 1) (bitOr (v .hidden) (2 ^ i)) (v .hidden) → n ≡ pick (eqb b 2) (bitOr (v .selected) (2 ^ i)) (v .selected)
+    → record { t = v .t; h = i + 1; end = e; hidden = m; selected = n } ≡ withHypothesis v b e
+with-hypothesis v b e i m n q f g = rw (f, g, q) refl
+
+pub ruleset views = (bit-on, bit-off, with-hypothesis)

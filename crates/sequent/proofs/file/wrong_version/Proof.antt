@@ -1,0 +1,8 @@
+use Rattle.sequent.proofs.FileLaws.{headerBytes}
+use borrow.Author.Needs.{needs}
+use Rattle.sequent.proofs.file.wrong_version.Statement.{statement}
+use Rattle.sequent.proofs.file.wrong_version.Tie as tie
+
+pub wrong-version-spec : {M : Type 1} → statement M
+wrong-version-spec =
+    tie.close (tie.spec (λ c. search needs) (λ c. search needs) (λ c. search (needs, headerBytes) depth 7) (λ c. search (needs, headerBytes) depth 7))
