@@ -21,7 +21,7 @@ use crate::sequent::{Done, Flag, Sequent};
 use crate::tree::Tree;
 
 /// How many buffers and rooms each act takes.
-const SHAPES: [(&str, usize, usize); 11] = [
+const SHAPES: [(&str, usize, usize); 13] = [
     ("read", 1, 0),
     ("select", 2, 1),
     ("deselect", 2, 1),
@@ -33,6 +33,8 @@ const SHAPES: [(&str, usize, usize); 11] = [
     ("genmp", 1, 2),
     ("onepoint", 2, 2),
     ("formula", 2, 0),
+    ("expression", 2, 0),
+    ("equal", 3, 0),
 ];
 
 /// How many buffers and rooms an act takes, or none where it is unknown.
@@ -57,6 +59,8 @@ pub fn run(act: &str, buffers: &[&[u8]], rooms: &[usize]) -> Option<Answer> {
         "genmp" => run_genmp(buffers, rooms),
         "onepoint" => run_one_point(buffers, rooms),
         "formula" => run_formula(buffers),
+        "expression" => run_expression(buffers),
+        "equal" => run_equal(buffers),
         _ => return None,
     })
 }
@@ -133,4 +137,17 @@ fn run_one_point(buffers: &[&[u8]], rooms: &[usize]) -> Answer {
 fn run_formula(buffers: &[&[u8]]) -> Answer {
     let (_, end) = read::predicate(buffers[1], 0, buffers[0])?;
     Ok(vec![number(end)])
+}
+
+/// The same for an expression.
+fn run_expression(buffers: &[&[u8]]) -> Answer {
+    let (_, end) = read::expression(buffers[1], 0, buffers[0])?;
+    Ok(vec![number(end)])
+}
+
+/// 1 where the predicates of two buffers are one formula, else 0.
+fn run_equal(buffers: &[&[u8]]) -> Answer {
+    let (left, _) = read::predicate(buffers[1], 0, buffers[0])?;
+    let (right, _) = read::predicate(buffers[2], 0, buffers[0])?;
+    Ok(vec![Part::Number(u64::from(left == right))])
 }

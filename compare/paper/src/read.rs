@@ -21,8 +21,17 @@ pub fn short<T>(bytes: &[u8]) -> Result<T, Refusal> {
 
 /// The predicate at `start` and the place after it; bytes further on are not looked at.
 pub fn predicate(bytes: &[u8], start: usize, types: &[u8]) -> Result<(Tree, usize), Refusal> {
+    formula(bytes, start, types, Sort::Predicate)
+}
+
+/// The same for an expression, of any type.
+pub fn expression(bytes: &[u8], start: usize, types: &[u8]) -> Result<(Tree, usize), Refusal> {
+    formula(bytes, start, types, Sort::Expression)
+}
+
+fn formula(bytes: &[u8], start: usize, types: &[u8], sort: Sort) -> Result<(Tree, usize), Refusal> {
     let mut reading = Reading { bytes, start, at: start, identifiers: types.len() };
-    let tree = reading.node(Sort::Predicate, 1, 0)?;
+    let tree = reading.node(sort, 1, 0)?;
     match types::first_wrong(&tree, start, types) {
         Some(place) => refuse(8, place),
         None => Ok((tree, reading.at)),
