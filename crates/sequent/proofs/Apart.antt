@@ -1,8 +1,8 @@
 -- Hypotheses none of which is equal to another: what is among them, and one more.
 use Prim.Native.Nat.{ℕ, _+_}
-use mathlib.Core.Path.{_≡_, refl, sym, ap, _∙_}
+use mathlib.Core.Path.{_≡_, refl, sym, _∙_}
 use mathlib.Core.Bool.{Bool, true, false, _||_}
-use mathlib.Core.Option.{Option, some, none}
+use mathlib.Core.Option.{some}
 use mathlib.Core.List.{List, [], _∷_, _++_, append-assoc}
 use Rattle.formula.specs.Pick.{pick}
 use Rattle.formula.specs.Tree.{Tree, encode}
@@ -10,7 +10,7 @@ use Rattle.formula.specs.Formula.{Formula}
 use Rattle.formula.specs.declared.Sort.the-variants as sort
 use Rattle.formula.proofs.Choices.{never}
 use Rattle.sequent.specs.Sequent.{Hypothesis, same, flagIn, holds, present}
-use Rattle.sequent.specs.File.{flagByte, hypothesesBytes}
+use Rattle.sequent.specs.File.{hypothesesBytes}
 use Rattle.sequent.specs.Accepted.{Predicates, Different}
 use Rattle.sequent.proofs.Bytes.{same-sym}
 

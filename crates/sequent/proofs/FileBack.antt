@@ -1,20 +1,19 @@
 -- What is read as a sequent's parts are such parts, and their bytes stand there.
-use Prim.Native.Nat.{ℕ, zero, suc, _+_, _≤_}
-use mathlib.Core.Path.{_≡_, refl, sym, ap, _∙_, subst}
-use mathlib.Core.Bool.{Bool, true, false}
+use Prim.Native.Nat.{ℕ, zero, suc, _+_}
+use mathlib.Core.Path.{_≡_, refl, sym, ap, _∙_}
 use mathlib.Core.Option.{Option, some, none}
 use mathlib.Core.List.{List, [], _∷_, _++_, append-assoc, append-nil}
 use native.Mathlib.Omega.{arith}
 use lib.ListN.{length, getD, drop, length-append}
 use lib.Dec.{ltb, leb}
 use borrow.Author.Tests.{leb-false, ltb-false}
-use Rattle.formula.specs.Tree.{Tree, encode}
+use Rattle.formula.specs.Tree.{encode}
 use Rattle.formula.proofs.Places.{AllBytes, one-more}
 use Rattle.formula.proofs.Choices.{none-some}
 use Rattle.sequent.specs.Sequent.{Flag, plain, hidden, selected, Hypothesis, present}
 use Rattle.sequent.specs.File.{flagByte, hypothesesBytes}
 use Rattle.sequent.specs.Accepted.{TypeBytes, Predicates, Different}
-use Rattle.sequent.specs.ReadFile.{Seen, seen, not-seen, flagOf, predicateAt, typesAt, onFlag, hypothesesAt}
+use Rattle.sequent.specs.ReadFile.{Seen, flagOf, predicateAt, typesAt, onFlag, hypothesesAt}
 use Rattle.sequent.proofs.Apart.{one-apart, one-predicate, bytes-append}
 use Rattle.sequent.proofs.SeenIs.{OfSeen, on-seen, so-seen, unless, Stood, predicate-stood}
 

@@ -1,11 +1,11 @@
 -- THE ROUND TRIP: the accepted files are the bytes of the accepted sequents, each of one.
-use Prim.Native.Nat.{ℕ, zero, suc, _+_, _≤_}
-use mathlib.Core.Path.{_≡_, refl, sym, ap, _∙_, subst}
-use mathlib.Core.Bool.{Bool, true, false, not, _&&_, _||_}
-use mathlib.Core.List.{List, [], _∷_, _++_, append-assoc, append-nil}
+use Prim.Native.Nat.{ℕ, _+_, _≤_}
+use mathlib.Core.Path.{_≡_, refl, ap, _∙_, subst}
+use mathlib.Core.Bool.{true, false, not, _&&_, _||_}
+use mathlib.Core.List.{List, [], _++_, append-nil}
 use native.Mathlib.Omega.{arith}
 use lib.ListN.{length, getD, drop, length-append, drop-of-length-le}
-use lib.Dec.{ltb, leb, eqb}
+use lib.Dec.{ltb, eqb}
 use borrow.Author.Tests.{le-ltb, ltb-false, eqb-true, not-false}
 use Rattle.formula.specs.Tree.{Tree, encode}
 use Rattle.formula.proofs.Places.{AllBytes, one-more, behind}
@@ -13,7 +13,7 @@ use Rattle.formula.proofs.Choices.{and-left, and-right}
 use Rattle.sequent.specs.Sequent.{Hypothesis, Sequent}
 use Rattle.sequent.specs.File.{header, hypothesesBytes, encodeSequent}
 use Rattle.sequent.specs.Accepted.{AcceptedSequent}
-use Rattle.sequent.specs.ReadFile.{Seen, seen, not-seen, predicateAt, typesAt, hypothesesAt, badMark, badVersion, badNumbers, bodyAt, readSequent}
+use Rattle.sequent.specs.ReadFile.{Seen, seen, predicateAt, typesAt, hypothesesAt, badMark, badVersion, badNumbers, bodyAt, readSequent}
 use Rattle.sequent.proofs.Apart.{or-false}
 use Rattle.sequent.proofs.SeenIs.{OfSeen, on-seen, unless, of-seen, Stood, reads-predicate, predicate-stood}
 use Rattle.sequent.proofs.FileRead.{reads-types, reads-hypotheses}

@@ -1,18 +1,17 @@
 -- The bytes of a sequent's parts are read as those parts.
-use Prim.Native.Nat.{ℕ, zero, suc, _+_, _≤_}
-use mathlib.Core.Path.{_≡_, refl, sym, ap, _∙_, subst}
-use mathlib.Core.Bool.{Bool, true, false}
-use mathlib.Core.Option.{Option, some, none}
+use Prim.Native.Nat.{ℕ, _+_}
+use mathlib.Core.Path.{_≡_, refl, ap, _∙_}
+use mathlib.Core.Option.{some}
 use mathlib.Core.List.{List, [], _∷_, _++_, append-assoc, append-nil}
 use native.Mathlib.Omega.{arith}
-use lib.ListN.{length, getD, drop, length-append}
+use lib.ListN.{length, drop, length-append}
 use borrow.Author.Tests.{lt-leb, le-ltb}
 use Rattle.formula.specs.Tree.{encode}
 use Rattle.formula.proofs.Places.{head-is, behind, reaches}
 use Rattle.sequent.specs.Sequent.{Flag, plain, hidden, selected, Hypothesis}
 use Rattle.sequent.specs.File.{flagByte, hypothesesBytes}
 use Rattle.sequent.specs.Accepted.{TypeBytes, Predicates, Different}
-use Rattle.sequent.specs.ReadFile.{Seen, seen, flagOf, typesAt, hypothesesAt}
+use Rattle.sequent.specs.ReadFile.{seen, flagOf, typesAt, hypothesesAt}
 use Rattle.sequent.proofs.Apart.{apart-before}
 use Rattle.sequent.proofs.SeenIs.{reads-predicate}
 

@@ -1,7 +1,7 @@
 -- The formulas of hypotheses: whatever is asked of hypotheses but their flags is asked of these.
-use Prim.Native.Nat.{ℕ, suc}
+use Prim.Native.Nat.{ℕ}
 use mathlib.Core.Path.{_≡_, refl, sym, ap, _∙_}
-use mathlib.Core.Bool.{Bool, true, false, _||_}
+use mathlib.Core.Bool.{Bool, _||_}
 use mathlib.Core.List.{List, [], _∷_, _++_, map, nil≢cons, cons≢nil}
 use lib.ListN.{length, length-map}
 use Rattle.formula.specs.Tree.{Tree}

@@ -1,8 +1,9 @@
 -- A lent formula, and a lent list: what is read is accepted, and the buffer is its bytes.
-use Prim.Native.Nat.{ℕ, zero, suc, _+_, _<_, _≤_}
-use mathlib.Core.Path.{_≡_, refl, sym, ap, _∙_, subst}
-use mathlib.Core.Bool.{Bool, true, false}
+use Prim.Native.Nat.{ℕ, zero, suc, _+_, _≤_}
+use mathlib.Core.Path.{_≡_, refl, sym, ap, _∙_}
+use mathlib.Core.Bool.{false}
 use mathlib.Core.List.{List, [], _∷_, _++_, append-assoc, append-nil}
+use native.Mathlib.Nat.{zero-add}
 use native.Mathlib.Omega.{arith}
 use lib.ListN.{length, getD, drop, length-append, drop-of-length-le}
 use lib.Dec.{ltb, leb}
@@ -21,11 +22,39 @@ unfoldable pub formulasBytes : List Tree → List ℕ
 formulasBytes [] = []
 formulasBytes (x ∷ xs) = encode x ++ formulasBytes xs
 
-formulas-append : (xs ys : List Tree) → formulasBytes (xs ++ ys) ≡ formulasBytes xs ++ formulasBytes ys
+bytes-joined : (xs ys : List Tree) → formulasBytes (xs ++ ys) ≡ formulasBytes xs ++ formulasBytes ys
 unfolding formulasBytes
-formulas-append [] ys = refl
-formulas-append (x ∷ xs) ys = rw (formulas-append xs ys, append-assoc (encode x) (formulasBytes xs) (formulasBytes ys)) refl
+bytes-joined [] ys = refl
+bytes-joined (x ∷ xs) ys = rw (bytes-joined xs ys, append-assoc (encode x) (formulasBytes xs) (formulasBytes ys)) refl
 
+-- ---- an accepted formula, or a list of them, is read back
+to-end-read : {A : Type 0} (b : List ℕ) (a : A) (e : ℕ) → length b ≤ e → toEnd b (seen a e) ≡ seen a e
+to-end-read b a e h = rw (le-ltb e (length b) h) refl
+
+module _ (types : List ℕ) where
+  pub lent-read : (x : Tree) → Formula types sort.Predicate x → lentPredicate types (encode x) ≡ seen x (length (encode x))
+  unfolding lentPredicate
+  lent-read x F = rw (reads-predicate (encode x) types 0 x [] F (sym (append-nil (encode x))), zero-add (length (encode x))) (to-end-read (encode x) x (length (encode x)) (omega arith))
+
+  reads-formulas : (b : List ℕ) (xs earlier : List Tree) (p : ℕ) → Each (Formula types sort.Predicate) xs → drop p b ≡ formulasBytes xs
+      → predicatesAt b types (length xs) earlier p ≡ seen (earlier ++ xs) (p + length (formulasBytes xs))
+  unfolding predicatesAt formulasBytes
+  reads-formulas b [] earlier p E e = rw (append-nil earlier) (ap (seen earlier) (omega arith))
+  reads-formulas b (x ∷ xs) earlier p E e =
+      let n = length-append (encode x) (formulasBytes xs) in
+      rw (reads-predicate b types p x (formulasBytes xs) (E .0) e)
+      (reads-formulas b xs (earlier ++ (x ∷ [])) (p + length (encode x)) (E .1) (behind b p (encode x) (formulasBytes xs) e)
+      ∙ rw (append-assoc earlier (x ∷ []) xs) (ap (seen (earlier ++ (x ∷ xs))) (omega arith)))
+
+  pub list-read : (most : ℕ) (xs : List Tree) → Each (Formula types sort.Predicate) xs → length xs ≤ most
+      → lentList types most (length xs ∷ formulasBytes xs) ≡ seen xs (length (length xs ∷ formulasBytes xs))
+  unfolding lentList
+  list-read most xs E h =
+      let b = length xs ∷ formulasBytes xs in
+      let n : 1 + length (formulasBytes xs) ≡ length b = omega arith in
+      rw (lt-leb (length b) 0 (omega arith), le-ltb most (length xs) h, reads-formulas b xs [] 1 E refl, n) (to-end-read b xs (length b) (omega arith))
+
+-- ---- what is read is accepted, and the buffer is its bytes
 module _ (b types : List ℕ) where
   -- to the end of the buffer
   to-end : {A : Type 0} (P Q : A → ℕ → Type 0) (z : Seen A) → OfSeen P z → ((a : A) (e : ℕ) → P a e → length b ≤ e → Q a e) → OfSeen Q (toEnd b z)
@@ -57,7 +86,7 @@ module _ (b types : List ℕ) where
       on-seen (Stood b types p) (FormulasStood (suc n) earlier p) (predicateAt b types p) _ (predicate-stood b types p B) λ x m X.
       let l = earlier ++ (x ∷ []) in
       so-seen (FormulasStood n l m) (FormulasStood (suc n) earlier p) (predicatesAt b types n l m) (formulas-stood B n l m (each-append (Formula types sort.Predicate) earlier (x ∷ []) P (X .is-formula, tt))) λ xs q H.
-      let a : formulasBytes l ≡ formulasBytes earlier ++ encode x = formulas-append earlier (x ∷ []) ∙ rw (append-nil (encode x)) refl in
+      let a : formulasBytes l ≡ formulasBytes earlier ++ encode x = bytes-joined earlier (x ∷ []) ∙ rw (append-nil (encode x)) refl in
       let i = length-append earlier (x ∷ []) in
       let j = H .so-many in
       record {

@@ -7,6 +7,7 @@ pub mod Lent
 pub mod Acts
 pub mod Outcome
 pub mod Desk
-pub mod ReadBytes
+pub mod Steps
 pub mod Masks
 pub mod DeskBytes
+pub mod ReadBytes

@@ -1,0 +1,172 @@
+//! Edges of size: bytes of files and formulas, levels, hypotheses, identifiers.
+
+use paper::codes::*;
+use paper::tree::{Tree, binder, identifier, leaf, literal, node, not, truth, two};
+
+use super::{equals, file, goal, request};
+use crate::loose::list_bytes;
+use crate::request::Request;
+
+pub fn all() -> Vec<Request> {
+    [levels(), formula_bytes(), hypothesis_counts(), identifier_counts(), file_bytes(), result_bytes()]
+        .concat()
+}
+
+fn everywhere(formula: &Tree) -> Vec<Request> {
+    vec![
+        request("read", &[goal(&[0], formula)]),
+        request("formula", &[vec![0], formula.bytes()]),
+        request("hide", &[goal(&[0], &truth(true)), formula.bytes()]),
+        request("genmp", &[file(&[0], &[(0, formula.clone())], formula)]),
+        request("forward", &[goal(&[0], &truth(true)), vec![0], list_bytes(std::slice::from_ref(formula))]),
+    ]
+}
+
+/// ¬ over ¬, and ¬ over deep expressions, of 31 to 34 levels.
+fn levels() -> Vec<Request> {
+    let mut out = Vec::new();
+    for levels in 31..=34 {
+        let mut negations = truth(true);
+        let mut minuses = identifier(0);
+        let mut bools = leaf(TRUE);
+        while negations.levels() < levels {
+            negations = not(&negations);
+        }
+        while minuses.levels() + 1 < levels {
+            minuses = node(NEGATIVE, vec![minuses]);
+        }
+        while bools.levels() + 1 < levels {
+            bools = node(BOOL, vec![two(EQUAL, &bools, &leaf(TRUE))]);
+        }
+        out.extend(everywhere(&negations));
+        out.extend(everywhere(&two(EQUAL, &minuses, &identifier(0))));
+        out.push(request("formula", &[vec![0], two(EQUAL, &bools, &leaf(TRUE)).bytes()]));
+    }
+    // At level 33 a known code, a code of the other sort, an unknown one, and nothing.
+    for tail in [&[1u8][..], &[0x20], &[0x20, 0], &[0x0a], &[4], &[4, 33], &[]] {
+        let deep = [vec![NOT; 32], tail.to_vec()].concat();
+        out.push(request("formula", &[vec![0], deep]));
+    }
+    out
+}
+
+/// A predicate of exactly so many bytes, over ∧ and ⊤.
+pub fn of_size(bytes: usize) -> Tree {
+    if bytes <= 3 {
+        return (1..bytes).fold(truth(true), |tree, _| not(&tree));
+    }
+    if bytes <= 34 {
+        return node(AND, vec![truth(true); bytes - 2]);
+    }
+    let (groups, mut left) = ((bytes - 2).div_ceil(34).clamp(2, 32), bytes - 2);
+    let mut operands = Vec::new();
+    for index in 0..groups {
+        let share = left / (groups - index);
+        operands.push(of_size(share));
+        left -= share;
+    }
+    node(AND, operands)
+}
+
+fn formula_bytes() -> Vec<Request> {
+    let mut out = Vec::new();
+    for size in 1020..=1030 {
+        out.extend(everywhere(&of_size(size)));
+    }
+    // A literal, a binder and a counted node whose own bytes pass the limit.
+    for size in 1000..=1024 {
+        let head = [vec![AND, 2], of_size(size - 2).bytes()].concat();
+        for tail in [&equals(7).bytes()[..], &[FORALL, 1, TRUTH], &[AND, 2, TRUTH, TRUTH]] {
+            out.push(request("formula", &[vec![0], [&head[..], tail].concat()]));
+        }
+    }
+    out
+}
+
+fn numbered(count: usize) -> Vec<(u8, Tree)> {
+    (0..count).map(|index| ((index % 3) as u8, equals(index as i64))).collect()
+}
+
+fn hypothesis_counts() -> Vec<Request> {
+    let mut out = Vec::new();
+    for count in [63, 64, 65] {
+        let before = file(&[0], &numbered(count), &equals(1));
+        let add = |values: &[i64]| list_bytes(&values.iter().map(|value| equals(*value)).collect::<Vec<_>>());
+        out.push(request("read", std::slice::from_ref(&before)));
+        out.push(request("genmp", std::slice::from_ref(&before)));
+        for values in [&[5][..], &[100], &[100, 100], &[100, 101], &[100, 101, 102]] {
+            out.push(request("modify", &[before.clone(), add(values), vec![0], vec![0]]));
+            out.push(request("forward", &[before.clone(), add(&[2]), add(values)]));
+            out.push(request("rewrite", &[before.clone(), add(&[1]), add(values), add(&[2])]));
+        }
+        let last = two(IMPLIES, &equals(2), &equals(1));
+        let step = [numbered(count - 1), vec![(2, last)]].concat();
+        out.push(request("genmp", &[file(&[0], &step, &truth(false))]));
+    }
+    out
+}
+
+fn identifier_counts() -> Vec<Request> {
+    let mut out = Vec::new();
+    for count in [63usize, 64, 65] {
+        let types: Vec<u8> = (0..count).map(|index| [0, 2, 1][index % 3]).collect();
+        let last = two(EQUAL, &identifier(63), &identifier(63));
+        out.push(request("read", &[goal(&types, &last)]));
+        out.push(request("onepoint", &[types, binder(EXISTS, 1, vec![last]).bytes()]));
+    }
+    out
+}
+
+/// A file of exactly so many bytes and 64 hypotheses.
+pub fn file_of_size(bytes: usize) -> Vec<u8> {
+    // Each hypothesis is a numbered equality beside filler; the goal takes up what is left.
+    let mut hypotheses = Vec::new();
+    let mut left = bytes - 9 - 64 - 12;
+    for index in 0..64 {
+        let share = (left / (64 - index)).min(1024);
+        let filler = of_size(share - 14);
+        hypotheses.push((0, node(AND, vec![equals(index as i64), filler])));
+        left -= share;
+    }
+    assert!(left == 0, "{bytes} bytes cannot be had");
+    file(&[0], &hypotheses, &equals(-1))
+}
+
+fn file_bytes() -> Vec<Request> {
+    let mut out = Vec::new();
+    for size in [59_999, 60_000, 60_001] {
+        let bytes = file_of_size(size);
+        assert_eq!(bytes.len(), size);
+        out.push(request("read", std::slice::from_ref(&bytes)));
+        out.push(request("genmp", std::slice::from_ref(&bytes)));
+        out.push(request("show", &[bytes, equals(1).bytes()]));
+    }
+    // A list may be longer than a file.
+    let long: Vec<Tree> = (0..64).map(|_| of_size(1024)).collect();
+    out.push(request("forward", &[goal(&[], &truth(true)), vec![0], list_bytes(&long)]));
+    out.push(request("forward", &[goal(&[], &truth(true)), list_bytes(&long), vec![0]]));
+    out
+}
+
+/// Results at 60,000 bytes and beyond.
+fn result_bytes() -> Vec<Request> {
+    let mut out = Vec::new();
+    let fill: Vec<(u8, Tree)> =
+        (0..58).map(|index| (0, node(AND, vec![equals(index), of_size(1010)]))).collect();
+    let base = file(&[0], &fill, &truth(true)).len();
+    for result in [59_999, 60_000, 60_001] {
+        let added = result - base - 1;
+        let list = list_bytes(&[of_size(added)]);
+        out.push(request("forward", &[file(&[0], &fill, &truth(true)), vec![0], list.clone()]));
+        out.push(request("modify", &[file(&[0], &fill, &truth(true)), list, vec![0], vec![0]]));
+    }
+    // The goal grows or shrinks with modify.
+    let tall = list_bytes(&[literal_goal()]);
+    out.push(request("modify", &[file_of_size(60_000), vec![0], vec![0], tall]));
+    out.push(request("modify", &[file_of_size(60_000), vec![0], vec![0], list_bytes(&[truth(true)])]));
+    out
+}
+
+fn literal_goal() -> Tree {
+    node(OR, vec![two(LESS, &literal(1), &literal(2)), equals(3)])
+}

@@ -1,0 +1,143 @@
+//! Edges of one-point inference: its order of refusals, joining, splitting, and the limits of a result.
+
+use paper::codes::*;
+use paper::tree::{Tree, binder, bound, identifier, leaf, literal, node, not, truth, two};
+
+use super::limits::of_size;
+use super::request;
+use crate::request::Request;
+
+pub fn all() -> Vec<Request> {
+    [type_buffers(), kinds(), joins(), splits(), results()].concat()
+}
+
+fn over(types: &[u8], predicate: &Tree) -> Request {
+    request("onepoint", &[types.to_vec(), predicate.bytes()])
+}
+
+/// The variable of this index is the first identifier.
+fn find(index: i64) -> Tree {
+    two(EQUAL, &bound(index), &identifier(0))
+}
+
+fn type_buffers() -> Vec<Request> {
+    let predicate = binder(EXISTS, 1, vec![two(EQUAL, &bound(0), &literal(1))]).bytes();
+    let mut out = Vec::new();
+    for length in [0usize, 1, 63, 64, 65, 66, 300] {
+        for bad in [None, Some(0), Some(63), Some(64)] {
+            let mut types = vec![0; length];
+            if let Some(byte) = bad.and_then(|place: usize| types.get_mut(place)) {
+                *byte = 3;
+            }
+            out.push(request("onepoint", &[types.clone(), predicate.clone()]));
+            out.push(request("onepoint", &[types, vec![10]]));
+        }
+    }
+    out
+}
+
+fn kinds() -> Vec<Request> {
+    let quantified =
+        |body: Tree| [FORALL, EXISTS].map(|code| over(&[0], &binder(code, 1, vec![body.clone()])));
+    let mut out = vec![over(&[0], &truth(true)), over(&[0], &not(&binder(EXISTS, 1, vec![find(0)])))];
+    let bodies = [
+        find(0),
+        not(&find(0)),
+        not(&not(&find(0))),
+        two(EQUAL, &bound(0), &bound(0)),
+        two(EQUAL, &bound(0), &node(PLUS, vec![bound(0), literal(1)])),
+        two(EQUAL, &node(PLUS, vec![identifier(0), literal(1)]), &bound(0)),
+        node(AND, vec![not(&not(&truth(true))), find(0), not(&not(&truth(true)))]),
+        node(OR, vec![not(&not(&truth(true))), not(&find(0)), not(&not(&truth(true)))]),
+        two(IMPLIES, &find(0), &truth(false)),
+        two(IMPLIES, &truth(true), &not(&find(0))),
+        two(IMPLIES, &not(&truth(true)), &not(&find(0))),
+        two(IFF, &find(0), &truth(true)),
+        not(&node(AND, vec![find(0), not(&truth(true))])),
+        not(&node(AND, vec![find(0), not(&not(&truth(true)))])),
+    ];
+    out.extend(bodies.into_iter().flat_map(quantified));
+    out
+}
+
+/// Blocks of 1 to 9 variables in all, like and unlike, with the find at each index.
+fn joins() -> Vec<Request> {
+    let mut out = Vec::new();
+    for outer in [1usize, 2, 3, 7, 8] {
+        for inner in [1usize, 2, 7, 8] {
+            for index in [0, 1, outer as i64 - 1] {
+                for (code, kind) in [(FORALL, FORALL), (FORALL, EXISTS), (EXISTS, FORALL), (EXISTS, EXISTS)] {
+                    let block = binder(kind, inner, vec![two(LESS, &bound(0), &bound(inner as i64))]);
+                    let body = match code {
+                        EXISTS => node(AND, vec![find(index), block]),
+                        _ => two(IMPLIES, &find(index), &block),
+                    };
+                    out.push(over(&[0], &binder(code, outer, vec![body])));
+                }
+            }
+        }
+    }
+    out
+}
+
+/// A balanced tree of ↦ over this leaf.
+fn maplets(levels: usize, of: &Tree) -> Tree {
+    if levels == 0 {
+        return of.clone();
+    }
+    let half = maplets(levels - 1, of);
+    two(MAPLET, &half, &half)
+}
+
+/// A chain of ↦ with so many leaves.
+fn chain(leaves: usize, of: &Tree) -> Tree {
+    (1..leaves).fold(of.clone(), |pair, _| two(MAPLET, &pair, of))
+}
+
+fn splits() -> Vec<Request> {
+    let mut out = Vec::new();
+    let yes = leaf(TRUE);
+    let exists = |body: Tree| over(&[0], &binder(EXISTS, 1, vec![body]));
+    for levels in 1..=6 {
+        let side = maplets(levels, &yes);
+        let equality = |first: &Tree| two(MAPLET, first, &side);
+        out.push(exists(two(EQUAL, &equality(&bound(0)), &equality(&identifier(0)))));
+        out.push(exists(node(AND, vec![two(EQUAL, &side, &side), find(0)])));
+        out.push(exists(node(AND, vec![find(0), two(EQUAL, &side, &side)])));
+    }
+    for leaves in 28..=31 {
+        let side = chain(leaves, &yes);
+        out.push(exists(node(AND, vec![two(EQUAL, &side, &side), find(0)])));
+    }
+    // 31 to 33 equalities left of one split, by halves of 16 leaves.
+    for more in 14..=17 {
+        let side = two(MAPLET, &maplets(4, &yes), &chain(more, &yes));
+        let whole = |first: &Tree| two(MAPLET, &side, first);
+        out.push(exists(two(EQUAL, &whole(&bound(0)), &whole(&identifier(0)))));
+    }
+    out
+}
+
+/// Results at 1,024 bytes and 32 levels, and beyond: a long replacement put in twice or deep inside.
+fn results() -> Vec<Request> {
+    let mut out = Vec::new();
+    let sum = |count: usize| node(PLUS, vec![identifier(0); count]);
+    for count in 28..=32 {
+        for copies in [14usize, 15, 16] {
+            let body =
+                [vec![two(EQUAL, &bound(0), &sum(count))], vec![two(LESS, &bound(0), &bound(0)); copies / 2]];
+            out.push(over(&[0], &binder(EXISTS, 1, vec![node(AND, body.concat())])));
+        }
+    }
+    for size in 940..=1000 {
+        let body = node(AND, vec![two(EQUAL, &bound(0), &sum(32)), of_size(size - 80), find(0)]);
+        out.push(over(&[0], &binder(EXISTS, 1, vec![body])));
+    }
+    for levels in 12..=18 {
+        let deep = (0..levels).fold(identifier(0), |tree, _| node(NEGATIVE, vec![tree]));
+        let place = (0..15).fold(bound(0), |tree, _| node(NEGATIVE, vec![tree]));
+        let body = node(AND, vec![two(EQUAL, &bound(0), &deep), two(LESS, &place, &literal(1))]);
+        out.push(over(&[0], &binder(EXISTS, 1, vec![body])));
+    }
+    out
+}

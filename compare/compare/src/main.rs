@@ -1,0 +1,161 @@
+//! The command line; `compare` alone says what there is.
+
+use std::path::PathBuf;
+use std::process::ExitCode;
+
+use compare::programs::Program;
+
+const USAGE: &str = "\
+compare lines [--by ours|paper|given|given-cut] [--check]
+        answers requests from standard input, one to a line: ACT BUFFER.. ROOM..
+        (--by paper if not said); --check holds each answer to what follows -> on its line
+compare run [--seed N] [--count N] [--wide]
+        holds all programs against each other: edges, every source against every key (of more literals
+        if wide), and N random requests
+compare laws [--seed N] [--count N]
+        tries the laws of genMP and one-point on small valuations
+compare archive DIR [--seed N] [--count N]
+        writes a folder of sequents that stands in for an archive
+compare drift DIR [--all] [--csv FILE] [--html FILE]
+        replays each *.sqt of a folder (genmp, read, and the acts in FILE.acts) and lists where the
+        proved library (or paper, where it is absent) and the given Rust part
+compare bench
+        times genmp and read by each program";
+
+/// What was asked on the command line: `--name value` pairs, `--name` alone, and other words.
+struct Asked {
+    words: Vec<String>,
+}
+
+impl Asked {
+    /// Takes `--name` and the word after it.
+    fn value(&mut self, name: &str) -> Result<Option<String>, String> {
+        let Some(at) = self.words.iter().position(|word| word == name) else {
+            return Ok(None);
+        };
+        if at + 1 >= self.words.len() {
+            return Err(format!("{name} needs a value"));
+        }
+        self.words.remove(at);
+        Ok(Some(self.words.remove(at)))
+    }
+
+    fn number(&mut self, name: &str, otherwise: u64) -> Result<u64, String> {
+        let Some(word) = self.value(name)? else {
+            return Ok(otherwise);
+        };
+        word.parse().map_err(|_| format!("{name} needs a number, not {word}"))
+    }
+
+    fn flag(&mut self, name: &str) -> bool {
+        let count = self.words.len();
+        self.words.retain(|word| word != name);
+        self.words.len() < count
+    }
+
+    /// Takes the first word that is no `--name`.
+    fn folder(&mut self) -> Result<PathBuf, String> {
+        let at = self.words.iter().position(|word| !word.starts_with("--"));
+        at.map(|at| PathBuf::from(self.words.remove(at))).ok_or_else(|| "a folder is missing".to_string())
+    }
+
+    /// Nothing may be left over.
+    fn end(&self) -> Result<(), String> {
+        self.words.first().map_or(Ok(()), |word| Err(format!("{word} is not understood")))
+    }
+}
+
+fn main() -> ExitCode {
+    let mut words: Vec<String> = std::env::args().skip(1).collect();
+    if words.is_empty() {
+        eprintln!("{USAGE}");
+        return ExitCode::from(2);
+    }
+    let command = words.remove(0);
+    match work(&command, Asked { words }) {
+        Ok(true) => ExitCode::SUCCESS,
+        Ok(false) => ExitCode::from(1),
+        Err(why) => {
+            eprintln!("compare: {why}\n{USAGE}");
+            ExitCode::from(2)
+        }
+    }
+}
+
+/// Whether all is well.
+fn work(command: &str, asked: Asked) -> Result<bool, String> {
+    match command {
+        "lines" => lines(asked),
+        "run" => run(asked),
+        "laws" => laws(asked),
+        "archive" => archive(asked),
+        "drift" => drift(asked),
+        "bench" => {
+            asked.end()?;
+            print!("{}", compare::bench::run());
+            Ok(true)
+        }
+        other => Err(format!("{other} is no command")),
+    }
+}
+
+fn lines(mut asked: Asked) -> Result<bool, String> {
+    let by = asked.value("--by")?.unwrap_or_else(|| "paper".to_string());
+    let check = asked.flag("--check");
+    asked.end()?;
+    let by = Program::parse(&by).ok_or_else(|| format!("{by} is no program"))?;
+    if let Some(why) = by.missing() {
+        eprintln!("compare: {why}");
+    }
+    let (input, out) = (std::io::stdin().lock(), std::io::stdout().lock());
+    compare::lines::work(by, check, input, out)
+        .map(|mismatches| mismatches == 0)
+        .map_err(|why| why.to_string())
+}
+
+fn run(mut asked: Asked) -> Result<bool, String> {
+    let (seed, count) = (asked.number("--seed", 1)?, asked.number("--count", 20_000)?);
+    let wide = asked.flag("--wide");
+    asked.end()?;
+    let (report, good) = compare::run::report(&compare::run::run(seed, count as usize, wide));
+    print!("{report}");
+    Ok(good)
+}
+
+fn laws(mut asked: Asked) -> Result<bool, String> {
+    let (seed, count) = (asked.number("--seed", 1)?, asked.number("--count", 2_000)?);
+    asked.end()?;
+    let (report, good) = compare::laws::report(&compare::laws::run(seed, count as usize));
+    print!("{report}");
+    Ok(good)
+}
+
+fn archive(mut asked: Asked) -> Result<bool, String> {
+    let (seed, count) = (asked.number("--seed", 1)?, asked.number("--count", 200)?);
+    let folder = asked.folder()?;
+    asked.end()?;
+    let written = compare::drift::archive::write(&folder, seed, count as usize);
+    println!("{} sequents written", written.map_err(|why| format!("{}: {why}", folder.display()))?);
+    Ok(true)
+}
+
+fn drift(mut asked: Asked) -> Result<bool, String> {
+    let (csv, html) = (asked.value("--csv")?, asked.value("--html")?);
+    let all = asked.flag("--all");
+    let folder = asked.folder()?;
+    asked.end()?;
+    for program in [Program::Ours, Program::Given] {
+        if let Some(why) = program.missing() {
+            eprintln!("compare: {why}");
+        }
+    }
+    let drift = compare::drift::run(&folder).map_err(|why| format!("{}: {why}", folder.display()))?;
+    let write = |file: Option<String>, text: &dyn Fn() -> String| match file {
+        Some(file) => std::fs::write(&file, text()).map_err(|why| format!("{file}: {why}")),
+        None => Ok(()),
+    };
+    write(csv, &|| compare::drift::csv::write(&drift))?;
+    write(html, &|| compare::drift::html::write(&drift))?;
+    print!("{}", drift.text(all));
+    Ok(drift.is_good())
+}
