@@ -1,8 +1,7 @@
 -- Buffers read one after the other: the first refusal is the answer.
 use Prim.Native.Nat.{ℕ, _+_, _≤_}
 use mathlib.Core.Path.{_≡_, refl, sym, ap, _∙_}
-use mathlib.Core.Bool.{Bool, true, false}
-use mathlib.Core.List.{List, [], _∷_}
+use mathlib.Core.List.{List}
 use native.Mathlib.Omega.{arith}
 use lib.ListN.{length}
 use mir.Syntax.{w64}
@@ -10,13 +9,12 @@ use mir.Val.{Fits}
 use Rattle.formula.specs.Tree.{Tree}
 use Rattle.formula.specs.declared.Said.{Said}
 use Rattle.sequent.specs.Sequent.{Flag, Sequent}
-use Rattle.sequent.specs.ReadFile.{Seen, seen, readSequent}
+use Rattle.sequent.specs.ReadFile.{readSequent}
 use Rattle.sequent.specs.Lent.{lentPredicate, lentList}
-use Rattle.sequent.specs.Outcome.{Outcome, refuses, answerOf, written, onBuffer, onList, flagOutcome, modifyOutcome, forwardOutcome, rewriteOutcome}
+use Rattle.sequent.specs.Outcome.{Outcome, refuses, onBuffer, onList, flagOutcome, modifyOutcome, forwardOutcome, rewriteOutcome}
 use Rattle.sequent.specs.Desk.{Open, Not, OpenedIs, LentIs, Lists, ListedIs}
 use Rattle.sequent.specs.Steps.{Answers, typesIn, IsLent, TwoAre, ThreeAre}
 use Rattle.sequent.specs.declared.View.{View}
-use Rattle.sequent.specs.declared.Done.{Done}
 use Rattle.sequent.specs.declared.Done.the-variants as done
 use Rattle.sequent.specs.declared.Opened.{Opened}
 use Rattle.sequent.specs.declared.Opened.the-variants as opened

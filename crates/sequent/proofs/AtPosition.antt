@@ -1,14 +1,14 @@
 -- A formula among hypotheses by its position: its flag, and a flag set there.
-use Prim.Native.Nat.{ℕ, zero, suc, _+_, _<_, _≤_}
-use mathlib.Core.Path.{_≡_, refl, sym, ap, _∙_}
+use Prim.Native.Nat.{suc, _<_, _≤_}
+use mathlib.Core.Path.{_≡_, refl, ap}
 use mathlib.Core.Bool.{Bool, true, false}
-use mathlib.Core.Option.{Option, some, none}
-use mathlib.Core.List.{List, [], _∷_, _++_}
+use mathlib.Core.Option.{some, none}
+use mathlib.Core.List.{List, [], _∷_}
 use native.Mathlib.Omega.{arith}
 use lib.ListN.{length}
 use Rattle.formula.specs.Pick.{pick}
 use Rattle.formula.specs.Tree.{Tree}
-use Rattle.sequent.specs.Sequent.{Flag, Hypothesis, same, flagIn, holds, present}
+use Rattle.sequent.specs.Sequent.{Flag, Hypothesis, same, flagIn, present}
 use Rattle.sequent.specs.Acts.{change}
 use Rattle.sequent.specs.Desk.{indexOf, setFlag, flagAt}
 

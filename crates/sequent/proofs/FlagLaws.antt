@@ -1,15 +1,14 @@
 -- The laws of the acts on one flag.
-use Prim.Native.Nat.{ℕ, zero, suc, _+_, _<_, _≤_}
-use mathlib.Core.Path.{_≡_, refl, sym, ap, _∙_, subst}
-use mathlib.Core.Bool.{Bool, true, false}
-use mathlib.Core.List.{List, [], _∷_, _++_}
+use Prim.Native.Nat.{ℕ, _<_, _≤_}
+use mathlib.Core.Path.{_≡_, refl, _∙_}
+use mathlib.Core.Bool.{Bool, false}
+use mathlib.Core.List.{List}
 use native.Mathlib.Omega.{arith}
 use lib.ListN.{length}
-use Rattle.formula.specs.Tree.{Tree}
-use Rattle.sequent.specs.Sequent.{Flag, plain, hidden, selected, Hypothesis, isHidden, isSelected}
+use Rattle.sequent.specs.Sequent.{Flag, plain, hidden, selected, isHidden, isSelected}
 use Rattle.sequent.specs.Acts.{change, withHypotheses, differs, acted, flagAct}
 use Rattle.sequent.specs.Outcome.{flagOutcome, finish}
-use Rattle.sequent.specs.Desk.{Holds, Range, Open, indexOf, setFlag, flagAt, flagFrom, FindIs, SetIs, FinishIs}
+use Rattle.sequent.specs.Desk.{Open, indexOf, flagAt, flagFrom, FindIs, SetIs, FinishIs}
 use Rattle.sequent.specs.Masks.{HiddenIs, SelectedIs}
 use Rattle.sequent.specs.Steps.{Answers, typesIn, IsLent, flagBy, hiddenBy, selectedBy, ChangeAtIs, ChangeIs, viewsDiffer}
 use Rattle.sequent.specs.declared.View.{View}

@@ -1,19 +1,16 @@
 -- Formulas inferred from sources that are there, and formulas hidden.
-use Prim.Native.Nat.{ℕ, zero, suc, _+_, _<_, _≤_}
-use mathlib.Core.Logic.{_⊎_}
-use mathlib.Core.Path.{_≡_, refl, sym, ap, _∙_}
+use Prim.Native.Nat.{ℕ, _+_, _<_, _≤_}
+use mathlib.Core.Path.{_≡_, refl, sym, _∙_}
 use mathlib.Core.Bool.{Bool, true, false, not, _&&_, _||_}
-use mathlib.Core.Option.{some, none}
-use mathlib.Core.List.{List, [], _∷_, _++_, append-assoc}
+use mathlib.Core.List.{List, [], _∷_}
 use native.Mathlib.Omega.{arith}
 use lib.ListN.{length, getD, length-append}
-use Rattle.formula.specs.Pick.{pick}
 use Rattle.formula.specs.Tree.{Tree}
-use Rattle.sequent.specs.Sequent.{Flag, plain, hidden, selected, Hypothesis, isHidden, isVisible, flagIn, holds, present}
+use Rattle.sequent.specs.Sequent.{hidden, selected, Hypothesis, isVisible, flagIn, holds}
 use Rattle.sequent.specs.Acts.{select, hide, change, inferredFlag, inferOne, inferAll, reselects, hideAll}
-use Rattle.sequent.specs.Desk.{Holds, Range, indexOf, flagAt, flagFrom, FindIs, AppendIs}
+use Rattle.sequent.specs.Desk.{Holds, indexOf, flagFrom, FindIs, AppendIs}
 use Rattle.sequent.specs.Masks.{HiddenIs}
-use Rattle.sequent.specs.Steps.{flagBy, ChangeAtIs, ChangeIs, Listing, hidesInferred, TooMuch, Extends, ReselectIs, InferTo, InferOneIs, InferAllIs, HideAllIs}
+use Rattle.sequent.specs.Steps.{ChangeAtIs, ChangeIs, Listing, hidesInferred, Extends, ReselectIs, InferTo, InferOneIs, InferAllIs, HideAllIs}
 use Rattle.sequent.specs.declared.View.{View}
 use Rattle.sequent.specs.declared.Act.the-variants as act
 use Rattle.sequent.specs.declared.Sources.{Sources}
@@ -25,7 +22,7 @@ use Rattle.sequent.proofs.ActsKeep.{infer-grown, infers-grown}
 use Rattle.sequent.proofs.Formulas.{each}
 use Rattle.sequent.proofs.AtPosition.{found-flag, no-flag, found-present, not-present, change-found, change-long}
 use Rattle.sequent.proofs.Positions.{found-before, absent-before, extends-same, extends-then, extends-long, grown-extends}
-use Rattle.sequent.proofs.Listings.{First, first-of, none-left}
+use Rattle.sequent.proofs.Listings.{first-of, none-left}
 use Rattle.sequent.proofs.Room.{too-much-one, too-much-grown}
 use Rattle.sequent.proofs.SourceLaws.{and-no, and-yes, or-no, or-assoc}
 

@@ -1,24 +1,23 @@
 -- Modify: which formulas are named unselected, formulas added, and the goal.
-use Prim.Native.Nat.{ℕ, zero, suc, _+_, _-_, _<_, _≤_}
+use Prim.Native.Nat.{ℕ, _+_, _-_, _<_, _≤_}
 use mathlib.Core.Path.{_≡_, refl, sym, ap, _∙_}
-use mathlib.Core.Bool.{Bool, true, false, not, _&&_, _||_}
-use mathlib.Core.List.{List, [], _∷_, _++_}
+use mathlib.Core.Bool.{Bool, true, false, not}
+use mathlib.Core.List.{List, [], _∷_}
 use native.Mathlib.Omega.{arith}
-use lib.ListN.{length, take, drop, getD, length-append, length-take, length-drop}
+use lib.ListN.{length, drop, getD, length-append, length-take, length-drop}
 use Rattle.formula.specs.Pick.{pick}
 use Rattle.formula.specs.Tree.{Tree, encode}
 use Rattle.formula.specs.Equal.{sameAt}
 use Rattle.formula.proofs.EqualLaws as E
 use Rattle.formula.proofs.Choices.{never}
 use Rattle.formula.specs.declared.Said.{Said}
-use Rattle.sequent.specs.Sequent.{Flag, plain, hidden, selected, Hypothesis, Sequent, same, among, present}
+use Rattle.sequent.specs.Sequent.{Flag, plain, Hypothesis, same, among}
 use Rattle.sequent.specs.Refusal.{saidOf}
-use Rattle.sequent.specs.ReadFile.{seen, readSequent}
-use Rattle.sequent.specs.Acts.{acted, differs, change, addedFlag, addOne, addAll, newGoal, modify, allAmong}
-use Rattle.sequent.specs.Outcome.{Outcome, refuses, finish, modifyOutcome}
-use Rattle.sequent.specs.Desk.{Holds, Range, Open, indexOf, setFlag, flagAt, flagFrom, FindIs, AppendIs, FinishIs}
+use Rattle.sequent.specs.Acts.{acted, differs, addedFlag, addOne, addAll, modify, allAmong}
+use Rattle.sequent.specs.Outcome.{refuses, finish, modifyOutcome}
+use Rattle.sequent.specs.Desk.{Holds, Range, Open, indexOf, flagAt, flagFrom, FindIs, AppendIs, FinishIs}
 use Rattle.sequent.specs.DeskBytes.{LaidIs}
-use Rattle.sequent.specs.Steps.{Answers, typesIn, ThreeAre, flagBy, ChangeAtIs, viewsDiffer, Listing, TooMuch, Extends, StepTo, SameIs, AmongIs, AllAmongIs, addedAct, AddOneIs, AddAllIs, GoalIs, AddIs, ModifyIs}
+use Rattle.sequent.specs.Steps.{Answers, typesIn, ThreeAre, flagBy, ChangeAtIs, viewsDiffer, Listing, StepTo, SameIs, AmongIs, AllAmongIs, addedAct, AddOneIs, AddAllIs, GoalIs, AddIs, ModifyIs}
 use Rattle.sequent.specs.declared.View.{View}
 use Rattle.sequent.specs.declared.Act.{Act}
 use Rattle.sequent.specs.declared.Done.{Done}
@@ -29,12 +28,12 @@ use Rattle.sequent.specs.declared.ListedThree.the-variants as three
 use Rattle.sequent.specs.declared.Appended.{Appended}
 use Rattle.sequent.specs.declared.Appended.the-variants as appended
 use Rattle.sequent.proofs.Bytes.{same-is, is-same}
-use Rattle.sequent.proofs.ActsKeep.{add-grown, adds-grown}
+use Rattle.sequent.proofs.ActsKeep.{adds-grown}
 use Rattle.sequent.proofs.Formulas.{each}
 use Rattle.sequent.proofs.AtPosition.{found-present, not-present, change-found, change-long}
 use Rattle.sequent.proofs.Positions.{grown-extends}
 use Rattle.sequent.proofs.Ranges.{goal-range}
-use Rattle.sequent.proofs.Listings.{First, first-of, none-left, lists-listing}
+use Rattle.sequent.proofs.Listings.{first-of, none-left, lists-listing}
 use Rattle.sequent.proofs.Room.{too-much-one, too-much-grown, too-much-finish}
 use Rattle.sequent.proofs.ViewLaws.{sequentOf, views-differ, views-same-goal}
 use Rattle.sequent.proofs.AnswerLaws.{refusal-answers, opened-is, lists-are, three-are}

@@ -1,13 +1,12 @@
 -- The parts of an opened sequent and of a lent buffer that hold a formula.
-use Prim.Native.Nat.{ℕ, zero, suc, _+_, _-_, _<_, _≤_}
-use mathlib.Core.Path.{_≡_, refl, sym, ap, _∙_, subst}
-use mathlib.Core.List.{List, [], _∷_, _++_}
+use Prim.Native.Nat.{ℕ, _+_, _-_, _≤_}
+use mathlib.Core.Path.{_≡_, _∙_}
+use mathlib.Core.List.{List}
 use native.Mathlib.Omega.{arith}
-use lib.ListN.{length, take, drop, length-drop, length-take}
+use lib.ListN.{length, drop, length-drop}
 use lib.Seq.{take-all}
 use Rattle.formula.specs.Tree.{Tree, encode}
-use Rattle.sequent.specs.Sequent.{Hypothesis, Sequent}
-use Rattle.sequent.specs.Desk.{Holds, Open, Range}
+use Rattle.sequent.specs.Desk.{Open, Range}
 use Rattle.sequent.specs.Steps.{typesIn}
 use Rattle.sequent.specs.declared.View.{View}
 

@@ -1,21 +1,20 @@
 -- Forward inference and rewrite, over lists that are read.
-use Prim.Native.Nat.{ℕ, zero, suc, _+_, _<_, _≤_}
-use mathlib.Core.Path.{_≡_, refl, sym, ap, _∙_}
-use mathlib.Core.Bool.{Bool, true, false, not, _&&_, _||_}
-use mathlib.Core.List.{List, [], _∷_, _++_}
+use Prim.Native.Nat.{ℕ, _≤_}
+use mathlib.Core.Path.{_≡_, refl, sym, _∙_}
+use mathlib.Core.Bool.{Bool, true, false, _||_}
+use mathlib.Core.List.{List, []}
 use native.Mathlib.Omega.{arith}
 use lib.ListN.{length}
-use Rattle.formula.specs.Pick.{pick}
-use Rattle.formula.specs.Tree.{Tree, encode}
+use Rattle.formula.specs.Tree.{Tree}
 use Rattle.formula.specs.declared.Said.{Said}
 use Rattle.sequent.specs.Sequent.{Hypothesis, Sequent}
 use Rattle.sequent.specs.Refusal.{saidOf}
 use Rattle.sequent.specs.ReadFile.{seen, readSequent}
-use Rattle.sequent.specs.Acts.{Acted, acted, withHypotheses, differs, allPresent, someSelected, allHidden, inferAll, infer, reselects, hideAll, forward, rewrite}
-use Rattle.sequent.specs.Outcome.{Outcome, refuses, finish, forwardOutcome, rewriteOutcome}
-use Rattle.sequent.specs.Desk.{Holds, Open, FinishIs}
+use Rattle.sequent.specs.Acts.{acted, differs, allPresent, inferAll, infer, hideAll, forward, rewrite}
+use Rattle.sequent.specs.Outcome.{finish, forwardOutcome, rewriteOutcome}
+use Rattle.sequent.specs.Desk.{Open, FinishIs}
 use Rattle.sequent.specs.DeskBytes.{LaidIs}
-use Rattle.sequent.specs.Steps.{Answers, typesIn, Listing, TwoAre, ThreeAre, noSource, judge, SourcesAre, viewsDiffer, hidesInferred, TooMuch, Extends, InferTo, InferAllIs, HideAllIs, HideIs, ThereIs, RewriteIs}
+use Rattle.sequent.specs.Steps.{Answers, typesIn, TwoAre, ThreeAre, noSource, judge, SourcesAre, viewsDiffer, hidesInferred, TooMuch, InferTo, InferAllIs, HideAllIs, HideIs, ThereIs, RewriteIs}
 use Rattle.sequent.specs.declared.Why.the-variants as why
 use Rattle.sequent.specs.declared.View.{View}
 use Rattle.sequent.specs.declared.Done.{Done}

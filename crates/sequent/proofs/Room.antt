@@ -1,20 +1,19 @@
 -- Too much for a sequent: one more hypothesis may be too much, what comes after it does not help, and the answer is 14.
-use Prim.Native.Nat.{ℕ, zero, suc, _+_, _<_, _≤_}
+use Prim.Native.Nat.{ℕ, _+_, _<_, _≤_}
 use mathlib.Core.Logic.{_⊎_, inl, inr, ⊎-elim}
-use mathlib.Core.Path.{_≡_, refl, sym, ap, _∙_}
+use mathlib.Core.Path.{_≡_, refl, ap, _∙_}
 use mathlib.Core.Bool.{Bool, true, false, _||_}
 use mathlib.Core.List.{List, [], _∷_, _++_}
 use native.Mathlib.Omega.{arith}
 use lib.ListN.{length, length-append}
 use lib.Dec.{ltb}
 use borrow.Author.Tests.{lt-ltb}
-use Rattle.formula.specs.Pick.{pick}
 use Rattle.formula.specs.Tree.{Tree, encode}
 use Rattle.sequent.specs.Sequent.{Flag, Hypothesis, Sequent}
 use Rattle.sequent.specs.File.{hypothesesBytes, encodeSequent}
 use Rattle.sequent.specs.Refusal.{saidOf}
 use Rattle.sequent.specs.Acts.{Acted}
-use Rattle.sequent.specs.Outcome.{Outcome, refuses, noRoom, finish}
+use Rattle.sequent.specs.Outcome.{refuses, noRoom, finish}
 use Rattle.sequent.specs.Desk.{Holds}
 use Rattle.sequent.specs.Steps.{TooMuch}
 use Rattle.sequent.specs.declared.View.{View}

@@ -1,20 +1,20 @@
 -- What the sources of an inference say.
-use Prim.Native.Nat.{ℕ, zero, suc, _+_, _<_, _≤_}
-use mathlib.Core.Path.{_≡_, refl, sym, ap, _∙_}
+use Prim.Native.Nat.{ℕ, _+_, _<_, _≤_}
+use mathlib.Core.Path.{_≡_, refl, sym, _∙_}
 use mathlib.Core.Bool.{Bool, true, false, not, _&&_, _||_}
-use mathlib.Core.List.{List, [], _∷_, _++_}
+use mathlib.Core.List.{List, [], _∷_}
 use native.Mathlib.Omega.{arith}
 use lib.ListN.{length, getD}
 use Rattle.formula.specs.Tree.{Tree}
 use Rattle.sequent.specs.Sequent.{Hypothesis, isHidden, isSelected, flagIn, holds, present}
 use Rattle.sequent.specs.Acts.{allPresent, someSelected, allHidden}
-use Rattle.sequent.specs.Desk.{Holds, Range, indexOf, FindIs}
+use Rattle.sequent.specs.Desk.{Holds, indexOf, FindIs}
 use Rattle.sequent.specs.Masks.{HiddenIs, SelectedIs}
 use Rattle.sequent.specs.Steps.{Listing, noSource, judgeOne, judge, SourceIs, SourcesAre, hidesInferred}
 use Rattle.sequent.specs.declared.View.{View}
 use Rattle.sequent.specs.declared.Sources.{Sources}
 use Rattle.sequent.proofs.AtPosition.{found-flag, no-flag}
-use Rattle.sequent.proofs.Listings.{First, first-of, none-left}
+use Rattle.sequent.proofs.Listings.{first-of, none-left}
 
 pub and-no : (b : Bool) → (b && false) ≡ false
 and-no true = refl

@@ -1,13 +1,13 @@
 -- Whether two views differ, and that this is whether their sequents differ.
 use Prim.Native.Nat.{ℕ}
 use mathlib.Core.Path.{_≡_, refl, sym, ap, _∙_}
-use mathlib.Core.Bool.{Bool, true, false, not, _||_}
+use mathlib.Core.Bool.{Bool, true, false, not}
 use mathlib.Core.List.{List}
 use borrow.Author.Tests.{eq-eqb, ne-eqb}
 use Rattle.formula.specs.Tree.{Tree}
 use Rattle.sequent.specs.Sequent.{Hypothesis, Sequent, same}
 use Rattle.sequent.specs.File.{encodeSequent}
-use Rattle.sequent.specs.Acts.{differs, acted}
+use Rattle.sequent.specs.Acts.{differs}
 use Rattle.sequent.specs.Desk.{Holds}
 use Rattle.sequent.specs.Steps.{viewsDiffer, Extends}
 use Rattle.sequent.specs.declared.View.{View}

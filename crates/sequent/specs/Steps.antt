@@ -1,5 +1,5 @@
 -- What each step of an act does on the desk.
-use Prim.Native.Nat.{ℕ, zero, suc, _+_, _-_, _<_, _≤_}
+use Prim.Native.Nat.{ℕ, _+_, _-_, _<_, _≤_}
 use mathlib.Core.Logic.{_⊎_}
 use mathlib.Core.Path.{_≡_}
 use mathlib.Core.List.{List, [], _∷_, _++_, map}
@@ -16,7 +16,7 @@ use Rattle.sequent.specs.Lent.{lentPredicate, lentList}
 use Rattle.sequent.specs.Acts as A
 use Rattle.sequent.specs.Acts.{change, addOne, addAll, allAmong, inferOne, inferAll, reselects, hideAll, rewrite}
 use Rattle.sequent.specs.Outcome.{Outcome, refuses, answerOf, written, onBuffer, finish}
-use Rattle.sequent.specs.Desk.{Holds, Range, Lists, indexOf, setFlag, flagAt, flagFrom}
+use Rattle.sequent.specs.Desk.{Holds, Range, Lists, indexOf, setFlag, flagAt}
 use Rattle.sequent.specs.declared.Why.the-variants as why
 use Rattle.sequent.specs.declared.View.{View}
 use Rattle.sequent.specs.declared.Done.{Done}
