@@ -1,8 +1,13 @@
 // What the program says.
+ghost use mathlib.Core.Bool.{true};
+ghost use mathlib.Core.Path.{_≡_};
 use formula::Said;
 use libc::STDOUT_FILENO;
 
-pub fn is(a: &[u8], b: &[u8]) -> bool {
+// Whether a word is the one named.
+pub fn is(a: &[u8], b: &[u8]) -> bool
+    ensures { λ r. ⌜ (r ≡ true → now (a .entry) ≡ now (b .entry)) × (now (a .entry) ≡ now (b .entry) → r ≡ true) ⌝ }
+{
     check::same(a, b)
 }
 
