@@ -1,5 +1,5 @@
-mod acts;
 mod counts;
+mod hypotheses;
 
 // The interface for C: numbers and byte slices alone. A slice is passed as a pointer and a length.
 ghost use mathlib.Core.Path.{_≡_};

@@ -1,6 +1,6 @@
 // cofferdrift: one act on sequent files. It prints one line: `ok ..`, `refused NUMBER at PLACE: ..`, or `misuse: ..`.
-mod acts;
 mod files;
+mod requests;
 mod words;
 
 // Which act a word names.
@@ -70,14 +70,14 @@ fn arguments(act: Act) -> usize {
 
 fn run(act: Act) {
     match act {
-        Act::Read => acts::read(),
-        Act::Select => acts::act(0),
-        Act::Deselect => acts::act(1),
-        Act::Hide => acts::act(2),
-        Act::Show => acts::act(3),
-        Act::Modify => acts::act(5),
-        Act::Forward => acts::act(4),
-        Act::Rewrite => acts::act(6),
+        Act::Read => requests::read(),
+        Act::Select => requests::act(0),
+        Act::Deselect => requests::act(1),
+        Act::Hide => requests::act(2),
+        Act::Show => requests::act(3),
+        Act::Modify => requests::act(5),
+        Act::Forward => requests::act(4),
+        Act::Rewrite => requests::act(6),
         Act::Help => words::help(),
         Act::Unknown => words::help(),
     }

@@ -6,10 +6,7 @@ pub mod FileRead
 pub mod FileBack
 pub mod FileIs
 pub mod LentAre
-pub mod Grown
 pub mod FlagsAre
-pub mod ActsKeep
-pub mod ChangedIs
 pub mod FileLaws
 pub mod CountLaws
 pub mod HypothesesLaws
@@ -21,17 +18,3 @@ pub mod Laid
 pub mod Found
 pub mod Appends
 pub mod Finishes
--- the acts on the desk: a formula at its position, ranges, lists, room
-pub mod AtPosition
-pub mod Positions
-pub mod Ranges
-pub mod Listings
-pub mod Room
--- the laws of the acts' code
-pub mod ViewLaws
-pub mod AnswerLaws
-pub mod FlagLaws
-pub mod SourceLaws
-pub mod InferLaws
-pub mod RewriteLaws
-pub mod ModifyLaws

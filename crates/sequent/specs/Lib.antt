@@ -4,10 +4,8 @@ pub mod Accepted
 pub mod Refusal
 pub mod ReadFile
 pub mod Lent
-pub mod Acts
 pub mod Outcome
 pub mod Desk
-pub mod Steps
 pub mod Masks
 pub mod DeskBytes
 pub mod ReadBytes

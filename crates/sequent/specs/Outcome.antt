@@ -12,7 +12,6 @@ use Rattle.sequent.specs.File.{encodeSequent}
 use Rattle.sequent.specs.Refusal.{saidOf}
 use Rattle.sequent.specs.ReadFile.{Seen, seen, not-seen, readSequent}
 use Rattle.sequent.specs.Lent.{lentPredicate, lentList}
-use Rattle.sequent.specs.Acts.{Acted, flagAct, modify, allAmong, forward, rewrite}
 use Rattle.sequent.specs.declared.Why.the-variants as why
 use Rattle.sequent.specs.declared.Counted.{Counted}
 use Rattle.sequent.specs.declared.Counted.the-variants as counted
@@ -39,6 +38,11 @@ abbrev pub onBuffer : {A : Type 0} → List ℕ → Seen A → (A → Outcome) �
 onBuffer b (seen a e) k = k a
 onBuffer b (not-seen w p) k = refuses (saidOf w p (length b))
 
+-- what an act makes of a sequent, and whether it answers "changed"
+pub record Acted : Type 0 where
+  pub changed : Bool
+  pub sequent : Sequent
+
 -- "14: result has over 64 hypotheses, over 60,000 bytes, or exceeds a lent buffer"; "14 is last"
 unfoldable pub noRoom : ℕ → Sequent → Bool
 noRoom room q = ltb 64 (length (q .hypotheses)) || (ltb 60000 (length (encodeSequent q)) || ltb room (length (encodeSequent q)))
@@ -46,26 +50,9 @@ noRoom room q = ltb 64 (length (q .hypotheses)) || (ltb 60000 (length (encodeSeq
 unfoldable pub finish : ℕ → Acted → Outcome
 finish room a = pick (noRoom room (a .sequent)) (refuses (saidOf why.Room 0 0)) (writes (a .changed) (encodeSequent (a .sequent)))
 
--- ---- the acts: "Sequents are read before formulas lent with an act, formulas in lent order, then the act's own checks; 14 is last."
-unfoldable pub flagOutcome : (Flag → Flag) → List ℕ → List ℕ → ℕ → Outcome
-flagOutcome f s b room = onBuffer s (readSequent s) (λ q. onBuffer b (lentPredicate (q .types) b) (λ x. finish room (flagAct f x q)))
-
 -- a list of the sequent's identifiers
 abbrev pub onList : Sequent → ℕ → List ℕ → (List Tree → Outcome) → Outcome
 onList q most b k = onBuffer b (lentList (q .types) most b) k
-
-unfoldable pub modifyOutcome : List ℕ → List ℕ → List ℕ → List ℕ → ℕ → Outcome
-modifyOutcome s a u g room =
-    onBuffer s (readSequent s) (λ q. onList q 64 a (λ added. onList q 64 u (λ unselected. onList q 1 g (λ goal.
-    pick (allAmong unselected added) (finish room (modify added unselected goal q)) (refuses (saidOf why.NotAdded 0 0))))))
-
-unfoldable pub forwardOutcome : List ℕ → List ℕ → List ℕ → ℕ → Outcome
-forwardOutcome s a b room =
-    onBuffer s (readSequent s) (λ q. onList q 64 a (λ sources. onList q 64 b (λ inferred. finish room (forward sources inferred q))))
-
-unfoldable pub rewriteOutcome : List ℕ → List ℕ → List ℕ → List ℕ → ℕ → Outcome
-rewriteOutcome s a b c room =
-    onBuffer s (readSequent s) (λ q. onList q 64 a (λ sources. onList q 64 b (λ inferred. onList q 64 c (λ toHide. finish room (rewrite sources inferred toHide q)))))
 
 -- ---- "Reading a sequent also answers how many are hidden, selected and visible."
 abbrev pub countsOf : List ℕ → Seen Sequent → Counted

@@ -1,9 +1,0 @@
-use borrow.Author.Needs.{needs}
-use Rattle.c_api.proofs.acts.cofferdrift_show.Statement.{statement}
-use Rattle.c_api.proofs.acts.cofferdrift_show.Tie as tie
-
-returns : tie.Need-returns
-returns c = (cc, (cc, (cc, (cc, cc))))
-
-pub cofferdrift-show-spec : {M : Type 1} → statement M
-cofferdrift-show-spec = tie.close (tie.spec (λ c κs. search needs) (λ c κs. search needs) (λ c κs. search needs) (λ c κs. search needs) (λ c κs. search needs) (λ c. search needs) returns)

@@ -1,7 +1,0 @@
-use borrow.Author.Needs.{needs}
-use Rattle.sequent.proofs.InferLaws.{reselecting}
-use Rattle.sequent.proofs.acts.reselects.Statement.{statement}
-use Rattle.sequent.proofs.acts.reselects.Tie as tie
-
-pub reselects-spec : {M : Type 1} → statement M
-reselects-spec = tie.close (tie.spec (λ c. search (needs, reselecting) depth 7) (λ c. search (needs, reselecting) depth 7) (λ c κs. search needs) (λ c. search (needs, reselecting) depth 7) (λ c. search (needs, reselecting) depth 7))
