@@ -2,7 +2,6 @@
 
 use std::time::{Duration, Instant};
 
-use answers::Part;
 use paper::codes::*;
 use paper::sequent::{Flag, Hypothesis, Sequent};
 use paper::tree::{Tree, identifier, leaf, literal, node, truth, two};
@@ -92,21 +91,10 @@ fn time(program: Program, request: &Request) -> Option<Duration> {
     (0..ROUNDS).map(|_| round()).min()
 }
 
-/// Rooms of exactly the result's size, so that no program is charged for clearing more.
-fn exact(request: &Request) -> Request {
-    let Some(Ok(parts)) = Program::Paper.answer(request) else {
-        return request.clone();
-    };
-    let lengths = parts.iter().filter_map(|part| match part {
-        Part::Bytes(bytes) => Some(bytes.len()),
-        Part::Number(_) => None,
-    });
-    request.with_rooms(lengths.collect())
-}
-
 /// One row: microseconds by program, and how many times longer than the first that is there.
 fn row(what: &str, request: &Request) -> String {
-    let request = exact(request);
+    // Rooms of exactly the result's size, so that no program is charged for clearing more.
+    let request = request.exact().unwrap_or_else(|| request.clone());
     let times = COLUMNS.map(|program| time(program, &request));
     let least = times.iter().flatten().next().copied().unwrap_or_default();
     let mut out = format!("{what:<44}");

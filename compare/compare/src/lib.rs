@@ -1,6 +1,8 @@
 //! Compares the proved library with the program written from document 01 and with the given Rust.
 
 pub mod bench;
+#[cfg(test)]
+mod decisions;
 pub mod drift;
 pub mod edges;
 pub mod explain;
@@ -16,5 +18,6 @@ pub mod programs;
 pub mod progress;
 pub mod request;
 pub mod run;
+pub mod sample;
 pub mod show;
 pub mod shrink;

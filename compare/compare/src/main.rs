@@ -3,15 +3,21 @@
 use std::path::PathBuf;
 use std::process::ExitCode;
 
+use compare::lines::Mode;
 use compare::programs::Program;
 
 const USAGE: &str = "\
-compare lines [--by ours|paper|given|given-cut] [--check]
+compare lines [--by ours|paper|given|given-cut] [--check [--or-absent]]
         answers requests from standard input, one to a line: ACT BUFFER.. ROOM..
-        (--by paper if not said); --check holds each answer to what follows -> on its line
+        (--by ours if not said); empty lines and lines that begin with # are skipped;
+        --check holds each answer to what follows -> on its line, and --or-absent lets a program pass
+        that lacks the act, and says how often
 compare run [--seed N] [--count N] [--wide]
         holds all programs against each other: edges, every source against every key (of more literals
         if wide), and N random requests
+compare sample [--seed N]
+        prints some 4,500 requests of all acts with the oracle's answers, some of every kind, in the
+        format of lines; how many of which kind goes to standard error
 compare laws [--seed N] [--count N]
         tries the laws of genMP and one-point on small valuations
 compare archive DIR [--seed N] [--count N]
@@ -87,6 +93,7 @@ fn work(command: &str, asked: Asked) -> Result<bool, String> {
     match command {
         "lines" => lines(asked),
         "run" => run(asked),
+        "sample" => sample(asked),
         "laws" => laws(asked),
         "archive" => archive(asked),
         "drift" => drift(asked),
@@ -99,16 +106,28 @@ fn work(command: &str, asked: Asked) -> Result<bool, String> {
     }
 }
 
+/// The program that is to answer: the proved library, if no other is named.
+fn answering(asked: &mut Asked) -> Result<Program, String> {
+    match asked.value("--by")? {
+        None => Ok(Program::Ours),
+        Some(name) => Program::parse(&name).ok_or_else(|| format!("{name} is no program")),
+    }
+}
+
 fn lines(mut asked: Asked) -> Result<bool, String> {
-    let by = asked.value("--by")?.unwrap_or_else(|| "paper".to_string());
-    let check = asked.flag("--check");
+    let by = answering(&mut asked)?;
+    let mode = match (asked.flag("--check"), asked.flag("--or-absent")) {
+        (false, false) => Mode::Answer,
+        (true, false) => Mode::Check,
+        (true, true) => Mode::CheckOrAbsent,
+        (false, true) => return Err("--or-absent goes with --check".to_string()),
+    };
     asked.end()?;
-    let by = Program::parse(&by).ok_or_else(|| format!("{by} is no program"))?;
     if let Some(why) = by.missing() {
         eprintln!("compare: {why}");
     }
     let (input, out) = (std::io::stdin().lock(), std::io::stdout().lock());
-    compare::lines::work(by, check, input, out)
+    compare::lines::work(by, mode, input, out)
         .map(|mismatches| mismatches == 0)
         .map_err(|why| why.to_string())
 }
@@ -120,6 +139,26 @@ fn run(mut asked: Asked) -> Result<bool, String> {
     let (report, good) = compare::run::report(&compare::run::run(seed, count as usize, wide));
     print!("{report}");
     Ok(good)
+}
+
+fn sample(mut asked: Asked) -> Result<bool, String> {
+    let seed = asked.number("--seed", compare::sample::SEED)?;
+    asked.end()?;
+    if let Some(why) = Program::GivenCut.missing() {
+        eprintln!("compare: {why}");
+    }
+    match compare::sample::sample(seed) {
+        Ok(lines) => {
+            let text: Vec<String> = lines.iter().map(|line| line.text() + "\n").collect();
+            print!("{}", text.concat());
+            eprint!("{}", compare::sample::table(&lines));
+            Ok(true)
+        }
+        Err(why) => {
+            eprintln!("compare: {why}");
+            Ok(false)
+        }
+    }
 }
 
 fn laws(mut asked: Asked) -> Result<bool, String> {
@@ -158,4 +197,19 @@ fn drift(mut asked: Asked) -> Result<bool, String> {
     write(html, &|| compare::drift::html::write(&drift))?;
     print!("{}", drift.text(all));
     Ok(drift.is_good())
+}
+
+#[cfg(test)]
+mod tests {
+    use super::*;
+
+    #[test]
+    fn ours_answers_if_no_other_is_named() {
+        let by = |words: &str| {
+            answering(&mut Asked { words: words.split_whitespace().map(str::to_string).collect() })
+        };
+        assert_eq!(by("--check"), Ok(Program::Ours));
+        assert_eq!(by("--check --by paper"), Ok(Program::Paper));
+        assert!(by("--by nobody").is_err() && by("--by").is_err());
+    }
 }

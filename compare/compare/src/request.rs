@@ -1,6 +1,6 @@
 //! Requests in the line format: `ACT BUFFER.. ROOM..`, perhaps with an expected answer after `->`.
 
-use answers::{Answer, hex, unhex};
+use answers::{Answer, Part, hex, unhex};
 
 /// Room enough for every result within document 01's limits.
 pub const AMPLE: usize = 60_000;
@@ -57,6 +57,17 @@ impl Request {
         Request { rooms, ..self.clone() }
     }
 
+    /// The request with rooms of exactly the lengths of document 01's answer; none where it is refused.
+    pub fn exact(&self) -> Option<Request> {
+        let ample = vec![AMPLE; self.rooms.len()];
+        let parts = paper::run(&self.act, &self.lent(), &ample)?.ok()?;
+        let lengths = parts.iter().filter_map(|part| match part {
+            Part::Bytes(bytes) => Some(bytes.len()),
+            Part::Number(_) => None,
+        });
+        Some(self.with_rooms(lengths.collect()))
+    }
+
     /// Whether the first buffer is a sequent.
     pub fn has_sequent(&self) -> bool {
         !matches!(self.act.as_str(), "onepoint" | "formula" | "expression")
@@ -79,9 +90,12 @@ pub fn parted(line: &str) -> (&str, Option<&str>) {
     }
 }
 
-/// An answer as the line format has it; `absent` where a program cannot answer.
+/// In the place of an answer where a program has none.
+pub const ABSENT: &str = "absent";
+
+/// An answer as the line format has it.
 pub fn answer_line(answer: &Option<Answer>) -> String {
-    answer.as_ref().map_or_else(|| "absent".to_string(), answers::line)
+    answer.as_ref().map_or_else(|| ABSENT.to_string(), answers::line)
 }
 
 #[cfg(test)]

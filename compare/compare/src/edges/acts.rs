@@ -9,14 +9,9 @@ use crate::request::Request;
 
 const FLAG_ACTS: [&str; 4] = ["select", "deselect", "hide", "show"];
 
-pub fn all() -> Vec<Request> {
-    let mut out: Vec<Request> = good().iter().flat_map(spoiled).collect();
-    out.extend(good());
-    out.extend(flag_acts());
-    out.extend(modifies());
-    out.extend(inferences());
-    out.extend(list_counts());
-    out
+pub fn chapters() -> Vec<Vec<Request>> {
+    let spoiled = good().iter().flat_map(spoiled).collect();
+    vec![spoiled, good(), flag_acts(), modifies(), inferences(), list_counts()]
 }
 
 fn list(values: &[i64]) -> Vec<u8> {
@@ -29,7 +24,7 @@ fn three() -> Vec<u8> {
 }
 
 /// One accepted request of each act.
-fn good() -> Vec<Request> {
+pub fn good() -> Vec<Request> {
     let mut out: Vec<Request> =
         FLAG_ACTS.iter().map(|act| request(act, &[three(), equals(1).bytes()])).collect();
     out.push(request("read", &[three()]));

@@ -7,9 +7,8 @@ use super::{equals, file, goal, request};
 use crate::loose::list_bytes;
 use crate::request::Request;
 
-pub fn all() -> Vec<Request> {
-    [levels(), formula_bytes(), hypothesis_counts(), identifier_counts(), file_bytes(), result_bytes()]
-        .concat()
+pub fn chapters() -> Vec<Vec<Request>> {
+    vec![levels(), formula_bytes(), hypothesis_counts(), identifier_counts(), file_bytes(), result_bytes()]
 }
 
 fn everywhere(formula: &Tree) -> Vec<Request> {
@@ -132,6 +131,22 @@ pub fn file_of_size(bytes: usize) -> Vec<u8> {
     file(&[0], &hypotheses, &equals(-1))
 }
 
+/// A few of the longest: files and results of 60,000 bytes and one more, and a list of 65,537.
+pub fn longest() -> Vec<Request> {
+    let reads = [60_000, 60_001].map(|size| request("read", &[file_of_size(size)]));
+    let inferences = [60_000, 60_001].map(|result| {
+        let (before, list) = growing_to(result);
+        request("forward", &[before, vec![0], list])
+    });
+    [&reads[..], &inferences, &[longest_list(), growing_step(60_001)]].concat()
+}
+
+/// A list may be longer than a file.
+fn longest_list() -> Request {
+    let long: Vec<Tree> = (0..64).map(|_| of_size(1024)).collect();
+    request("forward", &[goal(&[], &truth(true)), vec![0], list_bytes(&long)])
+}
+
 fn file_bytes() -> Vec<Request> {
     let mut out = Vec::new();
     for size in [59_999, 60_000, 60_001] {
@@ -141,24 +156,45 @@ fn file_bytes() -> Vec<Request> {
         out.push(request("genmp", std::slice::from_ref(&bytes)));
         out.push(request("show", &[bytes, equals(1).bytes()]));
     }
-    // A list may be longer than a file.
-    let long: Vec<Tree> = (0..64).map(|_| of_size(1024)).collect();
-    out.push(request("forward", &[goal(&[], &truth(true)), vec![0], list_bytes(&long)]));
-    out.push(request("forward", &[goal(&[], &truth(true)), list_bytes(&long), vec![0]]));
+    let inferred = longest_list();
+    let mut sources = inferred.clone();
+    sources.buffers.swap(1, 2);
+    out.extend([inferred, sources]);
     out
+}
+
+/// A numbered equality beside so many bytes.
+fn beside(value: i64, bytes: usize) -> (u8, Tree) {
+    (0, node(AND, vec![equals(value), of_size(bytes)]))
+}
+
+/// A sequent, and a list of the one formula that makes it so many bytes when it is appended.
+fn growing_to(result: usize) -> (Vec<u8>, Vec<u8>) {
+    let fill: Vec<(u8, Tree)> = (0..58).map(|index| beside(index, 1010)).collect();
+    let before = file(&[0], &fill, &truth(true));
+    let list = list_bytes(&[of_size(result - before.len() - 1)]);
+    (before, list)
+}
+
+/// A genMP step to a result of so many bytes: the equality makes ⊤ of itself in the last hypothesis.
+fn growing_step(result: usize) -> Request {
+    let mut hypotheses: Vec<(u8, Tree)> = (0..57).map(|index| beside(index, 1010)).collect();
+    hypotheses.push((0, equals(57)));
+    let goal = if result.is_multiple_of(2) { not(&truth(false)) } else { truth(false) };
+    // The last one's flag, ∧, count and equality, and the same with ⊤.
+    let filler = (result - file(&[0], &hypotheses, &goal).len() - 15 - 4) / 2;
+    hypotheses.push(beside(57, filler));
+    request("genmp", &[file(&[0], &hypotheses, &goal)])
 }
 
 /// Results at 60,000 bytes and beyond.
 fn result_bytes() -> Vec<Request> {
     let mut out = Vec::new();
-    let fill: Vec<(u8, Tree)> =
-        (0..58).map(|index| (0, node(AND, vec![equals(index), of_size(1010)]))).collect();
-    let base = file(&[0], &fill, &truth(true)).len();
     for result in [59_999, 60_000, 60_001] {
-        let added = result - base - 1;
-        let list = list_bytes(&[of_size(added)]);
-        out.push(request("forward", &[file(&[0], &fill, &truth(true)), vec![0], list.clone()]));
-        out.push(request("modify", &[file(&[0], &fill, &truth(true)), list, vec![0], vec![0]]));
+        let (before, list) = growing_to(result);
+        out.push(request("forward", &[before.clone(), vec![0], list.clone()]));
+        out.push(request("modify", &[before, list, vec![0], vec![0]]));
+        out.push(growing_step(result));
     }
     // The goal grows or shrinks with modify.
     let tall = list_bytes(&[literal_goal()]);
@@ -169,4 +205,18 @@ fn result_bytes() -> Vec<Request> {
 
 fn literal_goal() -> Tree {
     node(OR, vec![two(LESS, &literal(1), &literal(2)), equals(3)])
+}
+
+#[cfg(test)]
+mod tests {
+    use super::*;
+
+    #[test]
+    fn a_step_grows_to_its_size() {
+        for result in [59_999, 60_000] {
+            let exact = growing_step(result).exact().expect("an accepted step");
+            assert_eq!(exact.rooms[0], result);
+        }
+        assert_eq!(growing_step(60_001).exact(), None);
+    }
 }

@@ -39,7 +39,13 @@ fn one_points() -> [Tree; 3] {
     [binder(EXISTS, 1, vec![m10]), binder(EXISTS, 2, vec![m11]), binder(FORALL, 1, vec![m12])]
 }
 
-pub fn all() -> Vec<Request> {
+pub fn chapters() -> Vec<Vec<Request>> {
+    let predicates = one_points().map(|predicate| predicate_changes(&predicate.bytes()));
+    vec![examples(), changes(&files()[0]), cuts(&files()[8]), predicates.concat()]
+}
+
+/// M1 to M12, and the sequents among them read.
+pub fn examples() -> Vec<Request> {
     let mut out = Vec::new();
     for file in files() {
         out.push(request("genmp", std::slice::from_ref(&file)));
@@ -48,9 +54,6 @@ pub fn all() -> Vec<Request> {
     for predicate in one_points() {
         out.push(request("onepoint", &[vec![0], predicate.bytes()]));
     }
-    out.extend(changes(&files()[0]));
-    out.extend(cuts(&files()[8]));
-    out.extend(one_points().iter().flat_map(|predicate| predicate_changes(&predicate.bytes())));
     out
 }
 

@@ -5,6 +5,7 @@ mod limits;
 mod marked;
 mod one_point;
 mod reading;
+mod refused;
 
 use paper::sequent::{Flag, Hypothesis, Sequent};
 use paper::tree::{Tree, identifier, literal, two};
@@ -13,11 +14,24 @@ use crate::loose::sequent_bytes;
 use crate::request::Request;
 
 pub fn all() -> Vec<Request> {
-    [marked::all(), reading::all(), limits::all(), acts::all(), one_point::all()].concat()
+    chapters().concat()
 }
 
-pub use limits::of_size as filler;
-pub use marked::files as marked_files;
+/// The same, those about one thing together.
+pub fn chapters() -> Vec<Vec<Request>> {
+    [
+        marked::chapters(),
+        reading::chapters(),
+        limits::chapters(),
+        acts::chapters(),
+        one_point::chapters(),
+        vec![refused::all()],
+    ]
+    .concat()
+}
+
+pub use limits::{longest, of_size as filler};
+pub use marked::{examples, files as marked_files};
 
 /// The file of these parts, whatever their number.
 fn file(types: &[u8], hypotheses: &[(u8, Tree)], goal: &Tree) -> Vec<u8> {

@@ -7,8 +7,8 @@ use super::limits::of_size;
 use super::request;
 use crate::request::Request;
 
-pub fn all() -> Vec<Request> {
-    [type_buffers(), kinds(), joins(), splits(), results()].concat()
+pub fn chapters() -> Vec<Vec<Request>> {
+    vec![type_buffers(), kinds(), joins(), splits(), results()]
 }
 
 fn over(types: &[u8], predicate: &Tree) -> Request {

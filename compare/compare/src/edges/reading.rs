@@ -6,8 +6,8 @@ use paper::tree::{Tree, binder, bound, identifier, leaf, literal, node, not, tru
 use super::{equals, file, goal, request};
 use crate::request::Request;
 
-pub fn all() -> Vec<Request> {
-    [headers(), codes(), counts(), indices(), types(), deep_types(), hypotheses()].concat()
+pub fn chapters() -> Vec<Vec<Request>> {
+    vec![headers(), codes(), counts(), indices(), types(), deep_types(), hypotheses()]
 }
 
 /// The goal's bytes behind a header of three identifiers, one of each type; as a sequent and alone.

@@ -107,16 +107,10 @@ impl Tally {
         if request.rooms.is_empty() || !due {
             return;
         }
-        let answer = Program::Paper.answer(request);
-        let Some(Ok(parts)) = &answer else {
+        let Some(exact) = request.exact() else {
             return;
         };
-        let lengths = parts.iter().filter_map(|part| match part {
-            answers::Part::Bytes(bytes) => Some(bytes.len()),
-            answers::Part::Number(_) => None,
-        });
-        let exact = request.with_rooms(lengths.collect());
-        self.paper_says(&exact, &answer_line(&answer));
+        self.paper_says(&exact, &answer_line(&Program::Paper.answer(request)));
         self.against_ours(&exact);
         for index in 0..exact.rooms.len() {
             for short in [0, exact.rooms[index] - 1] {
