@@ -1,24 +1,21 @@
 -- Modify: which formulas are named unselected, formulas added, and the goal.
 use Prim.Native.Nat.{ℕ, _+_, _-_, _<_, _≤_}
-use mathlib.Core.Path.{_≡_, refl, sym, ap, _∙_}
+use mathlib.Core.Path.{_≡_, refl, sym, _∙_}
 use mathlib.Core.Bool.{Bool, true, false, not}
 use mathlib.Core.List.{List, [], _∷_}
 use native.Mathlib.Omega.{arith}
-use lib.ListN.{length, drop, getD, length-append, length-take, length-drop}
+use lib.ListN.{length, getD, length-append}
 use Rattle.formula.specs.Pick.{pick}
-use Rattle.formula.specs.Tree.{Tree, encode}
-use Rattle.formula.specs.Equal.{sameAt}
-use Rattle.formula.proofs.EqualLaws as E
-use Rattle.formula.proofs.Choices.{never}
+use Rattle.formula.specs.Tree.{Tree}
 use Rattle.formula.specs.declared.Said.{Said}
-use Rattle.sequent.specs.Sequent.{Flag, plain, Hypothesis, same, among}
+use Rattle.sequent.specs.Sequent.{Flag, plain, Hypothesis, among}
 use Rattle.sequent.specs.Refusal.{saidOf}
 use Rattle.acts.specs.Acts.{acted, differs, addedFlag, addOne, addAll, modify, allAmong}
 use Rattle.sequent.specs.Outcome.{refuses, finish}
 use Rattle.acts.specs.Outcomes.{modifyOutcome}
 use Rattle.sequent.specs.Desk.{Holds, Range, Open, indexOf, flagAt, flagFrom, FindIs, AppendIs, FinishIs}
-use Rattle.sequent.specs.DeskBytes.{LaidIs}
-use Rattle.acts.specs.Steps.{Answers, typesIn, ThreeAre, flagBy, ChangeAtIs, viewsDiffer, Listing, StepTo, SameIs, AmongIs, AllAmongIs, addedAct, AddOneIs, AddAllIs, GoalIs, AddIs, ModifyIs}
+use Rattle.sequent.specs.DeskBytes.{LaidIs, sameRange}
+use Rattle.acts.specs.Steps.{Answers, typesIn, ThreeAre, flagBy, ChangeAtIs, viewsDiffer, Listing, StepTo, AmongIs, AllAmongIs, addedAct, AddOneIs, AddAllIs, GoalIs, AddIs, ModifyIs}
 use Rattle.sequent.specs.declared.View.{View}
 use Rattle.acts.specs.declared.Act.{Act}
 use Rattle.sequent.specs.declared.Done.{Done}
@@ -28,7 +25,7 @@ use Rattle.acts.specs.declared.ListedThree.{ListedThree}
 use Rattle.acts.specs.declared.ListedThree.the-variants as three
 use Rattle.sequent.specs.declared.Appended.{Appended}
 use Rattle.sequent.specs.declared.Appended.the-variants as appended
-use Rattle.sequent.proofs.Bytes.{same-is, is-same}
+use Rattle.sequent.proofs.Found.{ranges-same}
 use Rattle.acts.proofs.ActsKeep.{adds-grown}
 use Rattle.sequent.proofs.Formulas.{each}
 use Rattle.acts.proofs.AtPosition.{found-present, not-present, change-found, change-long}
@@ -43,53 +40,6 @@ use Rattle.acts.proofs.RewriteLaws.{one-sequent, opened-short}
 abbrev Any : Tree → Type 0
 Any x = Unit {0}
 
--- ---- two ranges
-range-long : (x : List ℕ) (a e : ℕ) (X : Tree) → Range x a e X → length (encode X) ≡ e - a
-range-long x a e X R =
-    let l = ap length (R .bytes-are) in
-    let m = length-take (e - a) (drop a x) in
-    let n = length-drop a x in
-    omega (arith, R .inside)
-
-alike : (b c : Bool) → (b ≡ true → c ≡ true) → (c ≡ true → b ≡ true) → b ≡ c
-alike true c f g = sym (f refl)
-alike false true f g = g refl
-alike false false f g = refl
-
-module _ (x : List ℕ) (a e : ℕ) (y : List ℕ) (b f : ℕ) where
-  pub same-order : e < a → SameIs x a e y b f false
-  unfolding SameIs
-  same-order l X Y R S = absurd (omega (arith, R .from-to))
-
-  pub same-short : length x < e → SameIs x a e y b f false
-  unfolding SameIs
-  same-short l X Y R S = absurd (omega (arith, R .inside))
-
-  pub same-order-2 : f < b → SameIs x a e y b f false
-  unfolding SameIs
-  same-order-2 l X Y R S = absurd (omega (arith, S .from-to))
-
-  pub same-short-2 : length y < f → SameIs x a e y b f false
-  unfolding SameIs
-  same-short-2 l X Y R S = absurd (omega (arith, S .inside))
-
-  pub same-lengths : (e - a ≡ f - b → ⊥) → SameIs x a e y b f false
-  unfolding SameIs
-  same-lengths n X Y R S =
-      alike false (same X Y) never
-      (λ t. absurd (n (let l = ap length (same-is X Y t) in omega (arith, range-long x a e X R, range-long y b f Y S))))
-
-  pub same-bytes : (r : Bool) → e - a ≡ f - b → r ≡ sameAt (e - a) x a y b → SameIs x a e y b f r
-  unfolding SameIs
-  same-bytes r n q X Y R S =
-      let l : a + (e - a) ≤ length x = omega (arith, R .from-to, R .inside) in
-      let m : b + (e - a) ≤ length y = omega (arith, S .from-to, S .inside) in
-      q ∙ alike (sameAt (e - a) x a y b) (same X Y)
-      (λ t. is-same X Y (sym (R .bytes-are) ∙ E.same-is x y (e - a) a b l m t ∙ rw n (S .bytes-are)))
-      (λ t. E.is-same x y (e - a) a b l m (R .bytes-are ∙ same-is X Y t ∙ rw n (sym (S .bytes-are))))
-
-pub ruleset ranges = (same-order, same-short, same-order-2, same-short-2, same-lengths, same-bytes)
-
 -- ---- among the formulas of a list
 unfoldable pub AmongLeft : List ℕ → List ℕ → ℕ → List ℕ → ℕ → ℕ → ℕ → Type 0
 AmongLeft b starts n x a e i =
@@ -101,21 +51,21 @@ module _ (b starts : List ℕ) (n : ℕ) (x : List ℕ) (a e : ℕ) where
   among-start xs y L R = (xs, L, refl)
 
   module _ (i : ℕ) (I : AmongLeft b starts n x a e i) where
-    module _ (l : i < n) (r : Bool) (S : SameIs b (getD starts i 0) (getD starts (i + 1) 0) x a e r) where
+    module _ (l : i < n) (r : Bool) (S : r ≡ sameRange b (getD starts i 0) (getD starts (i + 1) 0) x a e) where
       pub among-goes : r ≡ false → AmongLeft b starts n x a e (i + 1)
-      unfolding AmongLeft SameIs among
+      unfolding AmongLeft among
       among-goes t xs y L R =
           let p = I xs y L R in
           let f = first-of b starts n i (p .0) (p .1) l in
-          let s = sym (S (f .here) y (f .range) R) ∙ t in
+          let s = sym (S ∙ ranges-same b (getD starts i 0) (getD starts (i + 1) 0) (f .here) (f .range) x a e y R) ∙ t in
           (f .rest, f .others, rw (f .are, s) at (p .2))
 
       pub among-found : r ≡ true → AmongIs b starts n x a e true
-      unfolding AmongLeft AmongIs SameIs among
+      unfolding AmongLeft AmongIs among
       among-found t xs y L R =
           let p = I xs y L R in
           let f = first-of b starts n i (p .0) (p .1) l in
-          let s = sym (S (f .here) y (f .range) R) ∙ t in
+          let s = sym (S ∙ ranges-same b (getD starts i 0) (getD starts (i + 1) 0) (f .here) (f .range) x a e y R) ∙ t in
           rw (f .are, s) at (p .2)
 
     pub among-ends : n ≤ i → AmongIs b starts n x a e false
@@ -253,14 +203,14 @@ module _ (s desk places : List ℕ) (v w : View) (g g-starts : List ℕ) (k : �
       let x : ch ≡ differs (sequentOf types hs goal) (sequentOf types ks goal) = c ∙ views-same-goal desk₀ places₀ desk places types v w hs ks H K E goal in
       rw (none-left g g-starts k 0 gs L (omega arith)) (record { says = f .0 ∙ rw x refl; leaves = f .1 ∙ rw x refl })
 
-  pub goal-lent : (b ch : Bool) → (k ≡ 0 → ⊥) → SameIs s (v .end) (length s) g (getD g-starts 0 0) (getD g-starts 1 0) b → ch ≡ viewsDiffer v w (not b)
+  pub goal-lent : (b ch : Bool) → (k ≡ 0 → ⊥) → b ≡ sameRange s (v .end) (length s) g (getD g-starts 0 0) (getD g-starts 1 0) → ch ≡ viewsDiffer v w (not b)
       → FinishIs desk places w g (getD g-starts 0 0) (getD g-starts 1 0) ch out out′ z → GoalIs s desk places v w g g-starts k out out′ z
-  unfolding GoalIs SameIs acted
+  unfolding GoalIs acted
   goal-lent b ch n S c F desk₀ places₀ types hs ks goal gs H E K ft fk R L =
       let o = first-of g g-starts k 0 gs L (omega arith) in
       let new = o .here in
       let f = F types ks new K ft fk (o .range) in
-      let x : ch ≡ differs (sequentOf types hs goal) (sequentOf types ks new) = c ∙ rw (S goal new R (o .range)) (views-differ desk₀ places₀ desk places types v w hs ks H K E goal new) in
+      let x : ch ≡ differs (sequentOf types hs goal) (sequentOf types ks new) = c ∙ rw (S ∙ ranges-same s (v .end) (length s) goal R g (getD g-starts 0 0) (getD g-starts 1 0) new (o .range)) (views-differ desk₀ places₀ desk places types v w hs ks H K E goal new) in
       rw (o .are) (record { says = f .0 ∙ rw x refl; leaves = f .1 ∙ rw x refl })
 
 pub ruleset goals = (goal-kept, goal-lent)

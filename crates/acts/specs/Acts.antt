@@ -1,7 +1,7 @@
 -- Document 01, "Acts on hypotheses (sequent.rs)".
 use mathlib.Core.List.{List, [], _∷_, _++_}
 use mathlib.Core.Bool.{Bool, true, false, not, _&&_, _||_}
-use mathlib.Core.Option.{Option, some, none}
+use mathlib.Core.Option.{some}
 use Rattle.formula.specs.Pick.{pick}
 use Rattle.formula.specs.Tree.{Tree}
 use Rattle.sequent.specs.Sequent.{Flag, plain, hidden, selected, Hypothesis, Sequent, isHidden, isSelected, isVisible, sameBytes, same, among, flagIn, holds, present}

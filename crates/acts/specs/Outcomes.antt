@@ -1,9 +1,8 @@
 -- What each act on hypotheses answers, and what it leaves in the lent buffer.
 use Prim.Native.Nat.{ℕ}
 use mathlib.Core.List.{List}
-use mathlib.Core.Bool.{Bool}
 use Rattle.formula.specs.Pick.{pick}
-use Rattle.sequent.specs.Sequent.{Flag, Sequent}
+use Rattle.sequent.specs.Sequent.{Flag}
 use Rattle.sequent.specs.Refusal.{saidOf}
 use Rattle.sequent.specs.ReadFile.{readSequent}
 use Rattle.sequent.specs.Lent.{lentPredicate}

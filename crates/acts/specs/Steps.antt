@@ -192,9 +192,6 @@ RewriteIs s a a-starts a-n b b-starts b-n c c-starts c-n out out′ r =
     → Answers (finish (length out) (rewrite xs ys zs q)) out out′ r
 
 -- ---- modify
-unfoldable pub SameIs : List ℕ → ℕ → ℕ → List ℕ → ℕ → ℕ → Bool → Type 0
-SameIs x a e y b f r = (X Y : Tree) → Range x a e X → Range y b f Y → r ≡ same X Y
-
 unfoldable pub AmongIs : List ℕ → List ℕ → ℕ → List ℕ → ℕ → ℕ → Bool → Type 0
 AmongIs b starts n x a e r = (xs : List Tree) (y : Tree) → Listing b starts n 0 xs → Range x a e y → r ≡ among y xs
 

@@ -1,17 +1,16 @@
 // Modify: formulas added, shown or selected, and the goal.
 ghost use mathlib.Core.Path.{_≡_};
-ghost use Prim.Native.Nat.{ℕ, _≤_};
+ghost use Prim.Native.Nat.{_≤_};
 ghost use lib.ListN.{length};
 ghost use Rattle.formula.specs.Columns.{table};
 ghost use Rattle.sequent.specs.Desk.{Open};
 ghost use Rattle.acts.specs.Outcomes.{modifyOutcome};
-ghost use Rattle.acts.specs.Steps.{Answers, SameIs, AmongIs, AllAmongIs, addedAct, AddOneIs, AddAllIs, GoalIs, AddIs, ModifyIs};
+ghost use Rattle.acts.specs.Steps.{Answers, AmongIs, AllAmongIs, addedAct, AddOneIs, AddAllIs, GoalIs, AddIs, ModifyIs};
 use super::Act;
 use super::ListedThree;
 use super::flags::change_at;
 use super::flags::differs;
 use super::lists::three_lists;
-use formula::equal::same;
 use formula::table::TABLE;
 use sequent::Appended;
 use sequent::Done;
@@ -22,30 +21,9 @@ use sequent::desk::append;
 use sequent::desk::find;
 use sequent::desk::finish;
 use sequent::desk::lay;
+use sequent::desk::same_range;
 use sequent::file::open;
 use sequent::refusal::said_of;
-
-// Whether x[a..e] and y[b..f] are one formula; the lengths are compared first.
-fn same_range(x: &[u8], a: usize, e: usize, y: &[u8], b: usize, f: usize) -> bool
-    ensures { λ r. ⌜ SameIs (now (x .entry)) a e (now (y .entry)) b f r ⌝ }
-{
-    if e < a {
-        return false;
-    }
-    if x.len() < e {
-        return false;
-    }
-    if f < b {
-        return false;
-    }
-    if y.len() < f {
-        return false;
-    }
-    if e - a != f - b {
-        return false;
-    }
-    same(x, a, y, b, e - a)
-}
 
 // Whether x[a..e] is among the n formulas of a lent list.
 fn among(list: &[u8], starts: &[usize; 65], n: usize, x: &[u8], a: usize, e: usize) -> bool

@@ -1,6 +1,5 @@
 // Select, deselect, hide and show: one flag found and set.
 ghost use mathlib.Core.Path.{_≡_};
-ghost use Prim.Native.Nat.{ℕ};
 ghost use lib.ListN.{length};
 ghost use Rattle.formula.specs.Columns.{table};
 ghost use Rattle.sequent.specs.Desk.{Open};

@@ -2,7 +2,7 @@
 ghost use mathlib.Core.Path.{_≡_};
 ghost use mathlib.Core.Bool.{_&&_, _||_};
 ghost use lib.ListN.{length};
-ghost use Prim.Native.Nat.{ℕ, _≤_};
+ghost use Prim.Native.Nat.{_≤_};
 ghost use Rattle.sequent.specs.Desk.{Open};
 ghost use Rattle.acts.specs.Steps.{SourceIs, SourcesAre, hidesInferred, ReselectIs, InferOneIs, InferAllIs, HideAllIs, HideIs, ThereIs, RewriteIs};
 use super::Act;

@@ -6,7 +6,6 @@ pub mod infer_lent;
 pub mod lists;
 
 ghost use mathlib.Core.Path.{_≡_};
-ghost use Prim.Native.Nat.{ℕ};
 ghost use lib.ListN.{length};
 ghost use Rattle.sequent.specs.Outcome.{answerOf, written};
 ghost use Rattle.acts.specs.Acts as Acts;

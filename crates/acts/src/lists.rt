@@ -1,6 +1,6 @@
 // Lent lists, one after the other.
 ghost use mathlib.Core.Path.{_≡_};
-ghost use Prim.Native.Nat.{ℕ, _≤_};
+ghost use Prim.Native.Nat.{_≤_};
 ghost use Rattle.formula.specs.Columns.{table};
 ghost use Rattle.acts.specs.Steps.{TwoAre, ThreeAre};
 use super::ListedThree;

@@ -3,7 +3,6 @@ mod hypotheses;
 
 // The interface for C: numbers and byte slices alone. A slice is passed as a pointer and a length.
 ghost use mathlib.Core.Path.{_≡_};
-ghost use Prim.Native.Nat.{ℕ};
 ghost use Rattle.c_api.specs.Formula.{sortAsked, readHere, answerOf, placeAfter};
 use formula::Outcome;
 use formula::Sort;

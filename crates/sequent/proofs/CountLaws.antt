@@ -13,6 +13,7 @@ use mir.Val.{Fits}
 use Rattle.formula.specs.Pick.{pick}
 use Rattle.formula.specs.declared.Said.{Said}
 use Rattle.sequent.specs.Sequent.{Flag, plain, hidden, selected, Hypothesis, isHidden, isSelected, isVisible, countOf}
+use Rattle.sequent.specs.Masks.{withBit}
 use Rattle.sequent.specs.Desk.{maskOf, Open, Not, OpenedIs}
 use Rattle.sequent.specs.ReadFile.{readSequent}
 use Rattle.sequent.specs.Outcome.{countsOf, readOutcome}
@@ -49,7 +50,8 @@ module _ (f : Flag → Bool) where
       omega arith
 
   -- one more hypothesis sets its bit, if it has such a flag
-  pub mask-more : (hs : List Hypothesis) (h : Hypothesis) → pick (f (h .flag)) (bitOr (maskOf f hs) (2 ^ length hs)) (maskOf f hs) ≡ maskOf f (hs ++ (h ∷ []))
+  pub mask-more : (hs : List Hypothesis) (h : Hypothesis) → pick (f (h .flag)) (withBit (maskOf f hs) (length hs)) (maskOf f hs) ≡ maskOf f (hs ++ (h ∷ []))
+  unfolding withBit
   mask-more hs h = go (f (h .flag)) refl
     where
       go : (b : Bool) → f (h .flag) ≡ b → pick b (bitOr (maskOf f hs) (2 ^ length hs)) (maskOf f hs) ≡ maskOf f (hs ++ (h ∷ []))

@@ -14,7 +14,7 @@ use Rattle.formula.specs.Pick.{pick}
 use Rattle.formula.specs.Equal.{sameAt}
 use Rattle.formula.proofs.Choices.{never}
 use Rattle.sequent.specs.Masks.{withFlag, flagByteOf}
-use Rattle.sequent.specs.DeskBytes.{sameRange, findFrom, findAt, grown, Fitting, fitsIn, lowByte, withFlags}
+use Rattle.sequent.specs.DeskBytes.{sameRange, hasFormula, findFrom, findAt, grown, Fitting, fitsIn, lowByte, withFlags}
 use Rattle.sequent.specs.declared.View.{View}
 
 -- ---- a copy
@@ -28,36 +28,47 @@ module _ (o s : List ℕ) (j i e : ℕ) (z : List ℕ) where
 pub ruleset copies = (copy-more, copy-done)
 
 -- ---- two ranges
-module _ (d : List ℕ) (p q : ℕ) (x : List ℕ) (a e : ℕ) where
-  pub range-past : length d < q → false ≡ sameRange d p q x a e
+module _ (x : List ℕ) (a e : ℕ) (y : List ℕ) (b f : ℕ) where
+  pub range-past : length x < e → false ≡ sameRange x a e y b f
   unfolding sameRange
   range-past h = simp (lt-ltb _ _ h)
 
-  module _ (h : q ≤ length d) where
-    pub range-none : q ≤ p → false ≡ sameRange d p q x a e
+  module _ (h : e ≤ length x) where
+    pub range-back : e < a → false ≡ sameRange x a e y b f
     unfolding sameRange
-    range-none k = simp (le-ltb _ _ h, le-leb _ _ k)
+    range-back k = simp (le-ltb _ _ h, lt-ltb _ _ k)
 
-    module _ (h₁ : p < q) where
-      pub range-over : length x < e → false ≡ sameRange d p q x a e
+    module _ (h₁ : a ≤ e) where
+      pub range-over : length y < f → false ≡ sameRange x a e y b f
       unfolding sameRange
-      range-over k = simp (le-ltb _ _ h, lt-leb _ _ h₁, lt-ltb _ _ k)
+      range-over k = simp (le-ltb _ _ h, le-ltb _ _ h₁, lt-ltb _ _ k)
 
-      module _ (h₂ : e ≤ length x) where
-        pub range-back : e < a → false ≡ sameRange d p q x a e
+      module _ (h₂ : f ≤ length y) where
+        pub range-turned : f < b → false ≡ sameRange x a e y b f
         unfolding sameRange
-        range-back k = simp (le-ltb _ _ h, lt-leb _ _ h₁, le-ltb _ _ h₂, lt-ltb _ _ k)
+        range-turned k = simp (le-ltb _ _ h, le-ltb _ _ h₁, le-ltb _ _ h₂, lt-ltb _ _ k)
 
-        module _ (h₃ : a ≤ e) where
-          pub range-long : (q - p - 1 ≡ e - a → ⊥) → false ≡ sameRange d p q x a e
+        module _ (h₃ : b ≤ f) where
+          pub range-long : (e - a ≡ f - b → ⊥) → false ≡ sameRange x a e y b f
           unfolding sameRange
-          range-long k = simp (le-ltb _ _ h, lt-leb _ _ h₁, le-ltb _ _ h₂, le-ltb _ _ h₃, ne-eqb _ _ k)
+          range-long k = simp (le-ltb _ _ h, le-ltb _ _ h₁, le-ltb _ _ h₂, le-ltb _ _ h₃, ne-eqb _ _ k)
 
-          pub range-same : (r : Bool) → q - p - 1 ≡ e - a → r ≡ sameAt (e - a) d (p + 1) x a → r ≡ sameRange d p q x a e
+          pub range-same : (r : Bool) → e - a ≡ f - b → r ≡ sameAt (e - a) x a y b → r ≡ sameRange x a e y b f
           unfolding sameRange
-          range-same r k g = g ∙ simp (le-ltb _ _ h, lt-leb _ _ h₁, le-ltb _ _ h₂, le-ltb _ _ h₃, eq-eqb _ _ k)
+          range-same r k g = g ∙ simp (le-ltb _ _ h, le-ltb _ _ h₁, le-ltb _ _ h₂, le-ltb _ _ h₃, eq-eqb _ _ k)
 
-pub ruleset ranges = (range-past, range-none, range-over, range-back, range-long, range-same)
+pub ruleset ranges = (range-past, range-back, range-over, range-turned, range-long, range-same)
+
+module _ (d : List ℕ) (p q : ℕ) (x : List ℕ) (a e : ℕ) where
+  pub has-none : q ≤ p → false ≡ hasFormula d p q x a e
+  unfolding hasFormula
+  has-none h = simp (le-leb _ _ h)
+
+  pub has-range : (r : Bool) → p < q → r ≡ sameRange d (p + 1) q x a e → r ≡ hasFormula d p q x a e
+  unfolding hasFormula
+  has-range r h g = g ∙ simp (lt-leb _ _ h)
+
+pub ruleset have = (has-none, has-range)
 
 -- ---- finding
 module _ (d l : List ℕ) (h : ℕ) (x : List ℕ) (a e : ℕ) where
@@ -74,7 +85,7 @@ module _ (d l : List ℕ) (h i : ℕ) (x : List ℕ) (a e z : ℕ) (g : findFrom
   unfolding findFrom
   find-none p q = let k : h - i ≡ 0 = omega arith in le-antisymm q p ∙ (rw k at g)
 
-  module _ (p : i < h) (b : Bool) (b≡ : b ≡ sameRange d (getD l i 0) (getD l (i + 1) 0) x a e) where
+  module _ (p : i < h) (b : Bool) (b≡ : b ≡ hasFormula d (getD l i 0) (getD l (i + 1) 0) x a e) where
     left-is : h - i ≡ suc (h - (i + 1))
     left-is = omega (arith, p)
 

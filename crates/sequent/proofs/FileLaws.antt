@@ -1,21 +1,17 @@
 -- The cases of the file reader's definitions.
-use Prim.Native.Nat.{ℕ, zero, suc, _+_, _-_, _*_, _%_, _^_, _<_, _≤_}
+use Prim.Native.Nat.{ℕ, zero, suc, _+_, _-_, _<_, _≤_}
 use mathlib.Core.Path.{_≡_, refl, sym, ap, _∙_}
 use mathlib.Core.Bool.{Bool, true, false, not, _||_}
 use mathlib.Core.List.{List, [], _∷_}
-use native.Mathlib.Nat.{one-mul, mod-eq-of-lt}
 use native.Mathlib.Numerals.{sub-one}
 use native.Mathlib.Omega.{arith}
 use lib.ListN.{length, getD}
 use lib.Dec.{ltb, eqb}
-use lib.Bits.{bitOr}
-use lib.Pow.{pow-lt}
 use borrow.Author.Tests.{le-ltb, lt-ltb, le-leb, lt-leb, eq-eqb, ne-eqb, ltb-false}
 use mir.Syntax.{w8}
 use mir.Val.{Fits}
 use Rattle.formula.specs.Pick.{pick}
 use Rattle.formula.specs.Tree.{Tree}
-use Rattle.formula.specs.Equal.{sameAt}
 use Rattle.formula.specs.Refusal as F
 use Rattle.formula.specs.Reading.{Parsed, got, not-got}
 use Rattle.formula.specs.Formula.{treeAt, endOrRefusal, readFormula}
@@ -28,7 +24,9 @@ use Rattle.formula.proofs.Places.{AllBytes}
 use Rattle.sequent.specs.Refusal.{number, placeOf, saidOf}
 use Rattle.sequent.specs.ReadFile.{Seen, seen, not-seen, onSeen, fromParsed, predicateAt, typesAt, badMark, badVersion, badNumbers}
 use Rattle.sequent.specs.Lent.{toEnd}
-use Rattle.sequent.specs.ReadBytes.{stop, checkOf, endOf, headerAt, hasFormula, twiceFrom, itemAt, withHypothesis}
+use Rattle.sequent.specs.ReadBytes.{stop, checkOf, endOf, headerAt, itemAt, withHypothesis}
+use Rattle.sequent.specs.DeskBytes.{findAt}
+use Rattle.sequent.specs.Masks.{withBit}
 use Rattle.sequent.specs.declared.Why.{Why}
 use Rattle.sequent.specs.declared.Why.the-variants as why
 use Rattle.sequent.specs.declared.Stop.{Stop}
@@ -193,57 +191,6 @@ module _ {A : Type 0} (b : List ℕ) (z : Seen A) (r : Ended) (r≡ : r ≡ endO
 
 pub ruleset lasts = (last-stops, last-more, last-fine)
 
--- ---- one of the earlier hypotheses
-module _ (s : List ℕ) (p q a e : ℕ) where
-  pub has-none : q ≤ p → false ≡ hasFormula s p q a e
-  unfolding hasFormula
-  has-none h = simp (le-leb _ _ h)
-
-  module _ (h : p < q) where
-    pub has-out : length s < q → false ≡ hasFormula s p q a e
-    unfolding hasFormula
-    has-out k = simp (lt-leb _ _ h, lt-ltb _ _ k)
-
-    module _ (k : q ≤ length s) where
-      pub has-no : e < a → false ≡ hasFormula s p q a e
-      unfolding hasFormula
-      has-no l = simp (lt-leb _ _ h, le-ltb _ _ k, lt-ltb _ _ l)
-
-      module _ (l : a ≤ e) where
-        pub has-past : length s < e → false ≡ hasFormula s p q a e
-        unfolding hasFormula
-        has-past m = simp (lt-leb _ _ h, le-ltb _ _ k, le-ltb _ _ l, lt-ltb _ _ m)
-
-        module _ (m : e ≤ length s) where
-          pub has-other : (q - p - 1 ≡ e - a → ⊥) → false ≡ hasFormula s p q a e
-          unfolding hasFormula
-          has-other n = simp (lt-leb _ _ h, le-ltb _ _ k, le-ltb _ _ l, le-ltb _ _ m, ne-eqb _ _ n)
-
-          pub has-bytes : (b : Bool) → q - p - 1 ≡ e - a → b ≡ sameAt (e - a) s (p + 1) s a → b ≡ hasFormula s p q a e
-          unfolding hasFormula
-          has-bytes b n b≡ = b≡ ∙ simp (lt-leb _ _ h, le-ltb _ _ k, le-ltb _ _ l, le-ltb _ _ m, eq-eqb _ _ n)
-
-pub ruleset have = (has-none, has-out, has-no, has-past, has-other, has-bytes)
-
-module _ (s places : List ℕ) (j a e : ℕ) (z : Bool) where
-  pub twice-end : (n : ℕ) → twiceFrom s places n j a e ≡ z → n ≡ 0 → false ≡ z
-  unfolding twiceFrom
-  twice-end zero q h = q
-  twice-end (suc n) q h = absurd (omega (arith, h))
-
-  module _ (b : Bool) (b≡ : b ≡ hasFormula s (getD places j 0) (getD places (j + 1) 0) a e) where
-    pub twice-here : (n : ℕ) → twiceFrom s places n j a e ≡ z → (n ≡ 0 → ⊥) → b ≡ true → true ≡ z
-    unfolding twiceFrom
-    twice-here zero q h k = absurd (h refl)
-    twice-here (suc n) q h k = simp (← b≡, k) at q
-
-    pub twice-goes : (n : ℕ) → twiceFrom s places n j a e ≡ z → (n ≡ 0 → ⊥) → b ≡ false → twiceFrom s places (n - 1) (j + 1) a e ≡ z
-    unfolding twiceFrom
-    twice-goes zero q h k = absurd (h refl)
-    twice-goes (suc n) q h k = rw (sub-one (suc n)) (simp (← b≡, k) at q)
-
-pub ruleset twices = (twice-end, twice-here, twice-goes)
-
 -- ---- a hypothesis
 module _ (s types places : List ℕ) (i p : ℕ) where
   pub item-out : length s ≤ p → item.Stopped (stop why.Length p) ≡ itemAt s types places i p
@@ -260,29 +207,26 @@ module _ (s types places : List ℕ) (i p : ℕ) where
       unfolding itemAt
       item-stops x q = simp (lt-leb _ _ h, le-ltb _ _ k, ← r≡, q)
 
-      module _ (e : ℕ) (q : r ≡ ended.At e) (b : Bool) (b≡ : b ≡ twiceFrom s places i 0 (p + 1) e) where
-        pub item-twice : b ≡ true → item.Stopped (stop why.Twice (p + 1)) ≡ itemAt s types places i p
+      module _ (e : ℕ) (q : r ≡ ended.At e) (j : ℕ) (j≡ : j ≡ findAt s places i s (p + 1) e) where
+        pub item-twice : j < i → item.Stopped (stop why.Twice (p + 1)) ≡ itemAt s types places i p
         unfolding itemAt
-        item-twice l = simp (lt-leb _ _ h, le-ltb _ _ k, ← r≡, q, ← b≡, l)
+        item-twice l = simp (lt-leb _ _ h, le-ltb _ _ k, ← r≡, q, ← j≡, lt-ltb _ _ l)
 
-        pub item-read : b ≡ false → item.Read (getD s p 0) e ≡ itemAt s types places i p
+        pub item-read : i ≤ j → item.Read (getD s p 0) e ≡ itemAt s types places i p
         unfolding itemAt
-        item-read l = simp (lt-leb _ _ h, le-ltb _ _ k, ← r≡, q, ← b≡, l)
+        item-read l = simp (lt-leb _ _ h, le-ltb _ _ k, ← r≡, q, ← j≡, le-ltb _ _ l)
 
 pub ruleset items = (item-out, item-flag, item-stops, item-twice, item-read)
 
 -- ---- masks
-pub shifted-one : (i : ℕ) → i < 64 → (1 * 2 ^ i) % 2 ^ 64 ≡ 2 ^ i
-shifted-one i h = ap (λ (n : ℕ). n % 2 ^ 64) (one-mul (2 ^ i)) ∙ mod-eq-of-lt (pow-lt h)
+module _ (m i r : ℕ) (on : Bool) where
+  pub bit-on : on ≡ true → r ≡ withBit m i → r ≡ pick on (withBit m i) m
+  bit-on e q = rw e q
 
-module _ (m i : ℕ) (on : Bool) where
-  pub bit-on : i < 64 → on ≡ true → bitOr m ((1 * 2 ^ i) % 2 ^ 64) ≡ pick on (bitOr m (2 ^ i)) m
-  bit-on h e = rw (shifted-one i h, e) refl
-
-  pub bit-off : on ≡ false → m ≡ pick on (bitOr m (2 ^ i)) m
+  pub bit-off : on ≡ false → m ≡ pick on (withBit m i) m
   bit-off e = rw e refl
 
-pub with-hypothesis : (v : View) (b e i m n : ℕ) → i ≡ v .h → m ≡ pick (eqb b 1) (bitOr (v .hidden) (2 ^ i)) (v .hidden) → n ≡ pick (eqb b 2) (bitOr (v .selected) (2 ^ i)) (v .selected)
+pub with-hypothesis : (v : View) (b e i m n : ℕ) → i ≡ v .h → m ≡ pick (eqb b 1) (withBit (v .hidden) i) (v .hidden) → n ≡ pick (eqb b 2) (withBit (v .selected) i) (v .selected)
     → record { t = v .t; h = i + 1; end = e; hidden = m; selected = n } ≡ withHypothesis v b e
 with-hypothesis v b e i m n q f g = rw (f, g, q) refl
 

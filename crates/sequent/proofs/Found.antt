@@ -1,24 +1,25 @@
 -- What the code finds is the first hypothesis that is the formula.
 use Prim.Native.Nat.{ℕ, suc, _+_, _-_, _<_, _≤_}
 use mathlib.Core.Path.{_≡_, refl, sym, ap, _∙_}
-use mathlib.Core.Bool.{Bool, true, false}
+use mathlib.Core.Bool.{Bool, true, false, _||_}
 use mathlib.Core.List.{List, [], _∷_}
 use native.Mathlib.Nat.{add-zero, zero-add}
 use native.Mathlib.Omega.{arith}
 use lib.ListN.{length, getD, take, drop, length-append, length-take}
 use lib.Seq.{getD-drop, drop-drop}
-use lib.Dec.{eqb}
-use borrow.Author.Tests.{eq-eqb, le-ltb, lt-leb, eqb-true, eqb-false}
+use lib.Dec.{eqb, ltb}
+use borrow.Author.Tests.{eq-eqb, le-ltb, lt-ltb, lt-leb, eqb-true, eqb-false, ltb-true, ltb-false}
 use Rattle.formula.specs.Pick.{pick}
 use Rattle.formula.specs.Tree.{Tree, encode}
 use Rattle.formula.specs.Equal.{sameAt}
 use Rattle.formula.proofs.Choices.{never, and-left, and-right}
 use Rattle.formula.proofs.EqualLaws.{same-is, is-same}
-use Rattle.sequent.specs.Sequent.{Hypothesis, sameBytes, same}
+use Rattle.sequent.specs.Sequent.{Hypothesis, sameBytes, same, present}
 use Rattle.sequent.specs.File.{hypothesesBytes}
 use Rattle.sequent.specs.Desk.{placesFrom, Stand, Holds, Range, indexOf, FindIs}
-use Rattle.sequent.specs.DeskBytes.{sameRange, findFrom, findAt}
+use Rattle.sequent.specs.DeskBytes.{sameRange, hasFormula, findFrom, findAt}
 use Rattle.sequent.specs.declared.View.{View}
+use Rattle.sequent.proofs.Apart.{present-none, present-cons}
 use Rattle.sequent.proofs.Laid.{range-count}
 
 -- ---- equal bytes
@@ -42,31 +43,36 @@ both-ways false true f g = g refl
 both-ways false false f g = refl
 
 -- ---- the code's test
-module _ (d : List ℕ) (p n : ℕ) (x : List ℕ) (a e : ℕ) (y z : Tree) (R : Range x a e y) (n≡ : n ≡ length (encode z)) (there : take n (drop (p + 1) d) ≡ encode z) (in-desk : p + 1 + n ≤ length d) where
-  same-at : n ≡ e - a → sameAt (e - a) d (p + 1) x a ≡ sameBytes (encode z) (encode y)
+module _ (x : List ℕ) (a e : ℕ) (X : Tree) (R : Range x a e X) (y : List ℕ) (b f : ℕ) (Y : Tree) (S : Range y b f Y) where
+  same-at : e - a ≡ f - b → sameAt (e - a) x a y b ≡ sameBytes (encode X) (encode Y)
   same-at k =
-      let i = R .inside in
-      let f = R .from-to in
-      let t : take (e - a) (drop (p + 1) d) ≡ encode z = ap (λ (m : ℕ). take m (drop (p + 1) d)) (sym k) ∙ there in
-      both-ways (sameAt (e - a) d (p + 1) x a) (sameBytes (encode z) (encode y))
-      (λ q. let m = same-is d x (e - a) (p + 1) a (omega arith) (omega arith) q in
-      let w : encode z ≡ encode y = sym t ∙ m ∙ R .bytes-are in rw w (same-self (encode y)))
-      (λ q. is-same d x (e - a) (p + 1) a (omega arith) (omega arith) (t ∙ bytes-same (encode z) (encode y) q ∙ sym (R .bytes-are)))
+      let l : a + (e - a) ≤ length x = omega (arith, R .from-to, R .inside) in
+      let m : b + (e - a) ≤ length y = omega (arith, S .from-to, S .inside) in
+      both-ways (sameAt (e - a) x a y b) (sameBytes (encode X) (encode Y))
+      (λ q. let w : encode X ≡ encode Y = sym (R .bytes-are) ∙ same-is x y (e - a) a b l m q ∙ rw k (S .bytes-are) in rw w (same-self (encode Y)))
+      (λ q. is-same x y (e - a) a b l m (R .bytes-are ∙ bytes-same (encode X) (encode Y) q ∙ rw k (sym (S .bytes-are))))
 
-  other-length : (n ≡ e - a → ⊥) → false ≡ sameBytes (encode z) (encode y)
+  other-length : (e - a ≡ f - b → ⊥) → false ≡ sameBytes (encode X) (encode Y)
   other-length k =
-      both-ways false (sameBytes (encode z) (encode y)) never
-      (λ q. absurd (k (n≡ ∙ ap length (bytes-same (encode z) (encode y) q) ∙ range-count x a e y R)))
+      both-ways false (sameBytes (encode X) (encode Y)) never
+      (λ q. absurd (k (sym (range-count x a e X R) ∙ ap length (bytes-same (encode X) (encode Y) q) ∙ range-count y b f Y S)))
 
-  range-is : sameRange d p (p + 1 + n) x a e ≡ same z y
+  -- ranges that hold formulas are the same if the formulas are
+  pub ranges-same : sameRange x a e y b f ≡ same X Y
   unfolding sameRange same
-  range-is =
-      let w : p + 1 + n - p - 1 ≡ n = omega arith in
-      simp (le-ltb _ _ in-desk, lt-leb (p + 1 + n) p (omega arith), le-ltb _ _ (R .inside), le-ltb _ _ (R .from-to), w) (go (eqb n (e - a)) refl)
+  ranges-same = simp (le-ltb _ _ (R .inside), le-ltb _ _ (R .from-to), le-ltb _ _ (S .inside), le-ltb _ _ (S .from-to)) (go (eqb (e - a) (f - b)) refl)
     where
-      go : (b : Bool) → eqb n (e - a) ≡ b → pick b (sameAt (e - a) d (p + 1) x a) false ≡ sameBytes (encode z) (encode y)
-      go true q = same-at (eqb-true n (e - a) q)
-      go false q = other-length (eqb-false n (e - a) q)
+      go : (t : Bool) → eqb (e - a) (f - b) ≡ t → pick t (sameAt (e - a) x a y b) false ≡ sameBytes (encode X) (encode Y)
+      go true q = same-at (eqb-true (e - a) (f - b) q)
+      go false q = other-length (eqb-false (e - a) (f - b) q)
+
+-- a formula that stands after its flag byte
+has-is : (d : List ℕ) (p n : ℕ) (x : List ℕ) (a e : ℕ) (y z : Tree) → Range x a e y → n ≡ length (encode z) → take n (drop (p + 1) d) ≡ encode z → p + 1 + n ≤ length d
+    → hasFormula d p (p + 1 + n) x a e ≡ same z y
+unfolding hasFormula
+has-is d p n x a e y z R n≡ there in-desk =
+    let w : p + 1 + n - (p + 1) ≡ n = omega arith in
+    simp (lt-leb (p + 1 + n) p (omega arith)) (ranges-same d (p + 1) (p + 1 + n) z (record { from-to = omega arith; inside = in-desk; bytes-are = rw w there }) x a e y R)
 
 -- ---- the places
 module _ (D : List ℕ) (k b : ℕ) (r : List ℕ) where
@@ -112,7 +118,7 @@ module _ (d l x : List ℕ) (a e : ℕ) (y : Tree) (R : Range x a e y) where
       let w = length-append (encode (z .formula)) (hypothesesBytes hs) in
       let t = places-on l i (suc (length hs)) p (placesFrom (p + 1 + n) hs) q in
       let j = found hs (p + 1 + n) (i + 1) t (s .1) (omega arith) in
-      rw (place-is l i (suc (length hs)) p (placesFrom (p + 1 + n) hs) q, first-place l (i + 1) (p + 1 + n) hs t, range-is d p n x a e y (z .formula) R refl (s .0) (omega arith), j)
+      rw (place-is l i (suc (length hs)) p (placesFrom (p + 1 + n) hs) q, first-place l (i + 1) (p + 1 + n) hs t, has-is d p n x a e y (z .formula) R refl (s .0) (omega arith), j)
       (go (same (z .formula) y))
     where
       go : (b : Bool) → pick b i (i + 1 + indexOf hs y) ≡ i + pick b 0 (suc (indexOf hs y))
@@ -134,3 +140,20 @@ find-is d l h x a e r g v types hs y H k R =
     let b = within d l v types hs H in
     g ∙ simp (lt-leb (length l) h (omega arith)) refl ∙ ap (λ (n : ℕ). findFrom n d l 0 x a e) n
     ∙ found d l x a e y R hs (8 + length types) 0 (H .places-are) (H .stand) (omega arith) ∙ zero-add (indexOf hs y)
+
+-- a formula is there if its position is one of theirs
+next-below : (i n : ℕ) → ltb (suc i) (suc n) ≡ ltb i n
+next-below i n = go (ltb i n) refl
+  where
+    go : (b : Bool) → ltb i n ≡ b → ltb (suc i) (suc n) ≡ b
+    go true q = lt-ltb (suc i) (suc n) (omega (arith, ltb-true i n q))
+    go false q = le-ltb (suc i) (suc n) (omega (arith, ltb-false i n q))
+
+pub there-is : (hs : List Hypothesis) (y : Tree) → ltb (indexOf hs y) (length hs) ≡ present hs y
+unfolding indexOf
+there-is [] y = sym (present-none y)
+there-is (h ∷ hs) y = go (same (h .formula) y) (there-is hs y) ∙ sym (present-cons h hs y)
+  where
+    go : (b : Bool) → ltb (indexOf hs y) (length hs) ≡ present hs y → ltb (pick b 0 (suc (indexOf hs y))) (suc (length hs)) ≡ (b || present hs y)
+    go true e = lt-ltb 0 (suc (length hs)) (omega arith)
+    go false e = next-below (indexOf hs y) (length hs) ∙ e

@@ -1,38 +1,37 @@
 -- One more hypothesis: what the reader's step finds is what document 01 reads, and it stands in its place.
 use Prim.Native.Nat.{ℕ, zero, suc, _+_, _-_, _<_, _≤_}
 use mathlib.Core.Path.{_≡_, refl, sym, ap, _∙_, subst}
-use mathlib.Core.Bool.{Bool, true, false, _||_}
+use mathlib.Core.Bool.{Bool, true, false}
 use mathlib.Core.Option.{some, none}
 use mathlib.Core.List.{List, [], _∷_, _++_, append-nil}
 use native.Mathlib.Nat.{add-zero, sub-zero}
 use native.Mathlib.Omega.{arith}
 use lib.ListN.{length, getD, set, replicate, length-replicate, take, drop, length-append, length-set}
-use lib.Seq.{drop-drop, take-at, take-suc-set}
+use lib.Seq.{take-at, take-suc-set}
 use lib.Dec.{ltb, leb, eqb}
-use borrow.Author.Tests.{le-ltb, lt-leb, eqb-true, eqb-false, ltb-true, ltb-false}
+use borrow.Author.Tests.{ltb-true, ltb-false}
 use mir.Syntax.{w8}
 use mir.Val.{Fits}
 use Rattle.formula.specs.Pick.{pick}
 use Rattle.formula.specs.Tree.{Tree, encode}
-use Rattle.formula.specs.Equal.{sameAt}
 use Rattle.formula.proofs.Places.{AllBytes}
-use Rattle.formula.proofs.Choices.{never}
 use Rattle.formula.proofs.EqualLaws as E
-use Rattle.sequent.specs.Sequent.{Flag, plain, hidden, selected, Hypothesis, isHidden, isSelected, same, present}
+use Rattle.sequent.specs.Sequent.{Flag, plain, hidden, selected, Hypothesis, isHidden, isSelected, present}
 use Rattle.sequent.specs.File.{hypothesesBytes}
 use Rattle.sequent.specs.ReadFile.{Seen, seen, not-seen, onSeen, predicateAt, flagOf, onFlag, hypothesesAt}
-use Rattle.sequent.specs.Desk.{maskOf, placesFrom, Stand, Holds}
-use Rattle.sequent.specs.ReadBytes.{stop, endOf, hasFormula, twiceFrom, unlessTwice, itemAt, withHypothesis, HypothesesAre}
+use Rattle.sequent.specs.Desk.{maskOf, placesFrom, Stand, Holds, Range}
+use Rattle.sequent.specs.ReadBytes.{stop, endOf, unlessTwice, itemAt, withHypothesis, HypothesesAre}
+use Rattle.sequent.specs.DeskBytes.{findAt}
 use Rattle.sequent.specs.declared.Why.the-variants as why
 use Rattle.sequent.specs.declared.Stop.{Stop}
 use Rattle.sequent.specs.declared.View.{View}
 use Rattle.sequent.specs.declared.Item.{Item}
 use Rattle.sequent.specs.declared.Item.the-variants as item
 use Rattle.sequent.specs.declared.Stage.the-variants as stage
-use Rattle.sequent.proofs.Bytes.{same-is, is-same}
-use Rattle.sequent.proofs.Apart.{present-none, present-cons, bytes-append}
+use Rattle.sequent.proofs.Apart.{bytes-append}
 use Rattle.sequent.proofs.SeenIs.{OfSeen, Stood, predicate-stood}
 use Rattle.sequent.proofs.FileLaws.{all-bytes}
+use Rattle.sequent.proofs.Found.{find-is, there-is}
 use Rattle.sequent.proofs.CountLaws.{mask-more}
 
 -- ---- the flag of a byte
@@ -53,81 +52,6 @@ no-flag zero h = absurd (let k = ltb-true 2 0 h in omega arith)
 no-flag (suc zero) h = absurd (let k = ltb-true 2 1 h in omega arith)
 no-flag (suc (suc zero)) h = absurd (let k = ltb-true 2 2 h in omega arith)
 no-flag (suc (suc (suc b))) h = refl
-
--- ---- a formula among the earlier ones
-both-ways : (b c : Bool) → (b ≡ true → c ≡ true) → (c ≡ true → b ≡ true) → b ≡ c
-both-ways true c h k = sym (h refl)
-both-ways false true h k = k refl
-both-ways false false h k = refl
-
-module _ (s : List ℕ) (x : Tree) (a : ℕ) (x-in : a + length (encode x) ≤ length s) (x-at : take (length (encode x)) (drop a s) ≡ encode x) where
-  -- a hypothesis at p has the formula x
-  module _ (y : Tree) (p : ℕ) (y-in : p + 1 + length (encode y) ≤ length s) (y-at : take (length (encode y)) (drop (p + 1) s) ≡ encode y) where
-    has-is : hasFormula s p (p + 1 + length (encode y)) a (a + length (encode x)) ≡ same y x
-    unfolding hasFormula
-    has-is = simp (lt-leb q p (omega arith), le-ltb (length s) q y-in, le-ltb e a (omega arith), le-ltb (length s) e x-in, n≡, m≡) (go (eqb n m) refl)
-      where
-        n : ℕ
-        n = length (encode y)
-
-        m : ℕ
-        m = length (encode x)
-
-        q : ℕ
-        q = p + 1 + n
-
-        e : ℕ
-        e = a + m
-
-        n≡ : q - p - 1 ≡ n
-        n≡ = omega arith
-
-        m≡ : e - a ≡ m
-        m≡ = omega arith
-
-        go : (b : Bool) → eqb n m ≡ b → pick b (sameAt m s (p + 1) s a) false ≡ same y x
-        go true h =
-            let w : n ≡ m = eqb-true n m h in
-            let y-at′ : take m (drop (p + 1) s) ≡ encode y = subst (λ (k : ℕ). take k (drop (p + 1) s) ≡ encode y) w y-at in
-            both-ways (sameAt m s (p + 1) s a) (same y x)
-            (λ r. is-same y x (sym y-at′ ∙ E.same-is s s m (p + 1) a (omega arith) (omega arith) r ∙ x-at))
-            (λ r. E.is-same s s m (p + 1) a (omega arith) (omega arith) (y-at′ ∙ same-is y x r ∙ sym x-at))
-        go false h = both-ways false (same y x) (λ r. never r) (λ r. absurd (eqb-false n m h (ap length (same-is y x r))))
-
-  starts-at : (p : ℕ) (hs : List Hypothesis) → getD (placesFrom p hs) 0 0 ≡ p
-  unfolding placesFrom
-  starts-at p [] = refl
-  starts-at p (h ∷ hs) = refl
-
-  -- one of the hypotheses from the j-th on, the first of which stands at p
-  module _ (places : List ℕ) where
-    first-of : (l : List ℕ) (n p : ℕ) (ps : List ℕ) → take (suc n) l ≡ p ∷ ps → (getD l 0 0 ≡ p) × (take n (drop 1 l) ≡ ps)
-    first-of [] n p ps e = absurd (let z : _≡_ {A = ℕ} 0 1 = cc in omega arith)
-    first-of (b ∷ l) n p ps e = (cc, cc)
-
-    at-place : (j p n : ℕ) (ps : List ℕ) → take (suc n) (drop j places) ≡ p ∷ ps → (getD places j 0 ≡ p) × (take n (drop (j + 1) places) ≡ ps)
-    at-place j p n ps e =
-        let f = first-of (drop j places) n p ps e in
-        (ap (λ (i : ℕ). getD places i 0) (sym (add-zero j)) ∙ sym (lib.Seq.getD-drop j places 0 0) ∙ f .0, subst (λ (l : List ℕ). take n l ≡ ps) (drop-drop 1 j places) (f .1))
-
-    twice-is : (hs : List Hypothesis) (j p : ℕ) → take (suc (length hs)) (drop j places) ≡ placesFrom p hs → Stand s p hs → p + length (hypothesesBytes hs) ≤ length s
-        → twiceFrom s places (length hs) j a (a + length (encode x)) ≡ present hs x
-    unfolding twiceFrom placesFrom Stand hypothesesBytes
-    twice-is [] j p e S h = sym (present-none x)
-    twice-is (k ∷ hs) j p e S h =
-        let n = length (encode (k .formula)) in
-        let f = at-place j p (suc (length hs)) (placesFrom (p + 1 + n) hs) e in
-        let g : getD places (j + 1) 0 ≡ p + 1 + n = next (j + 1) hs (p + 1 + n) (f .1) in
-        let l = length-append (encode (k .formula)) (hypothesesBytes hs) in
-        rw (f .0, g, has-is (k .formula) p (omega arith) (S .0), twice-is hs (j + 1) (p + 1 + n) (f .1) (S .1) (omega arith)) (or-is (same (k .formula) x) (present hs x)) ∙ sym (present-cons k hs x)
-      where
-        next : (i : ℕ) (hs : List Hypothesis) (q : ℕ) → take (suc (length hs)) (drop i places) ≡ placesFrom q hs → getD places i 0 ≡ q
-        next i [] q e = at-place i q 0 [] e .0
-        next i (h ∷ hs) q e = at-place i q (suc (length hs)) _ e .0
-
-        or-is : (b c : Bool) → pick b true c ≡ (b || c)
-        or-is true c = refl
-        or-is false c = refl
 
 -- ---- one more hypothesis stands in its place
 module _ (s : List ℕ) (h : Hypothesis) where
@@ -178,13 +102,12 @@ module _ (s types places : List ℕ) (v : View) (hs : List Hypothesis) (H : Hold
         rest f x q = pick (present hs x) (not-seen why.Twice (p + 1)) (hypothesesAt s types n (hs ++ (record { flag = f; formula = x } ∷ [])) q)
 
         -- the bytes from p + 1 to q are those of x
-        twice : (x : Tree) (q : ℕ) → Stood s types (p + 1) x q → twiceFrom s places (v .h) 0 (p + 1) q ≡ present hs x
+        twice : (x : Tree) (q : ℕ) → Stood s types (p + 1) x q → ltb (findAt s places (v .h) s (p + 1) q) (v .h) ≡ present hs x
         twice x q S =
-            let j = S .inside in
             let e = S .ends in
-            let w = H .end-is in
-            let k = H .in-desk in
-            rw (e, H .h-is) (twice-is s x (p + 1) (omega arith) (ap (take (length (encode x))) (S .stands) ∙ take-at (encode x) (drop q s) (length (encode x)) refl) places hs 0 (8 + length types) (H .places-are) (H .stand) (omega arith))
+            let n : q - (p + 1) ≡ length (encode x) = omega arith in
+            let R : Range s (p + 1) q x = record { from-to = omega arith; inside = S .inside; bytes-are = rw n (ap (take (length (encode x))) (S .stands) ∙ take-at (encode x) (drop q s) (length (encode x)) refl) } in
+            rw (find-is s places (v .h) s (p + 1) q (findAt s places (v .h) s (p + 1) q) refl v types hs x H refl R, H .h-is) (there-is hs x)
 
         found : (f : FlagIs b) (x : Tree) (q : ℕ) → Stood s types (p + 1) x q → (t : Bool) → present hs x ≡ t
             → StepIs (pick t (not-seen why.Twice (p + 1)) (hypothesesAt s types n (hs ++ (record { flag = f .flag; formula = x } ∷ [])) q))

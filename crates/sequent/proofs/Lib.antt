@@ -9,12 +9,12 @@ pub mod LentAre
 pub mod FlagsAre
 pub mod FileLaws
 pub mod CountLaws
+pub mod Laid
+pub mod Found
 pub mod HypothesesLaws
 pub mod OpenLaws
 pub mod BufferLaws
 pub mod MaskLaws
 pub mod DeskLaws
-pub mod Laid
-pub mod Found
 pub mod Appends
 pub mod Finishes

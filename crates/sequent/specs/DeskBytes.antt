@@ -18,20 +18,24 @@ abbrev pub LaidIs : List ℕ → View → List ℕ → Type 0
 LaidIs s v desk = (places types : List ℕ) (hs : List Hypothesis) → Holds s places v types hs → v .end ≤ 60000 → Holds desk places v types hs
 
 -- ---- finding
--- whether the formula from p + 1 up to q on the desk is the one from a to e in x
+-- the bytes from a to e in x are those from b to f in y: the lengths first
 unfoldable pub sameRange : List ℕ → ℕ → ℕ → List ℕ → ℕ → ℕ → Bool
-sameRange desk p q x a e =
-    pick (ltb (length desk) q) false
-    (pick (leb q p) false
-    (pick (ltb (length x) e) false
+sameRange x a e y b f =
+    pick (ltb (length x) e) false
     (pick (ltb e a) false
-    (pick (eqb (q - p - 1) (e - a)) (sameAt (e - a) desk (p + 1) x a) false))))
+    (pick (ltb (length y) f) false
+    (pick (ltb f b) false
+    (pick (eqb (e - a) (f - b)) (sameAt (e - a) x a y b) false))))
+
+-- the hypothesis from p to q, a flag byte and a formula, has the formula that stands from a to e in x
+unfoldable pub hasFormula : List ℕ → ℕ → ℕ → List ℕ → ℕ → ℕ → Bool
+hasFormula desk p q x a e = pick (leb q p) false (sameRange desk (p + 1) q x a e)
 
 -- the first of n positions from i on where it stands, or the position after them
 unfoldable pub findFrom : ℕ → List ℕ → List ℕ → ℕ → List ℕ → ℕ → ℕ → ℕ
 findFrom zero desk places i x a e = i
 findFrom (suc n) desk places i x a e =
-    pick (sameRange desk (getD places i 0) (getD places (i + 1) 0) x a e) i (findFrom n desk places (i + 1) x a e)
+    pick (hasFormula desk (getD places i 0) (getD places (i + 1) 0) x a e) i (findFrom n desk places (i + 1) x a e)
 
 unfoldable pub findAt : List ℕ → List ℕ → ℕ → List ℕ → ℕ → ℕ → ℕ
 findAt desk places h x a e = pick (leb (length places) h) h (findFrom h desk places 0 x a e)

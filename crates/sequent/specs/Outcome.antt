@@ -1,17 +1,17 @@
 -- What each public function answers, and what it leaves in the lent buffer.
-use Prim.Native.Nat.{ℕ, zero, suc}
-use mathlib.Core.List.{List, [], _∷_, _++_}
-use mathlib.Core.Bool.{Bool, true, false, not, _||_}
+use Prim.Native.Nat.{ℕ}
+use mathlib.Core.List.{List, _++_}
+use mathlib.Core.Bool.{Bool, _||_}
 use lib.ListN.{length, drop}
 use lib.Dec.{ltb}
 use Rattle.formula.specs.Pick.{pick}
 use Rattle.formula.specs.Tree.{Tree}
 use Rattle.formula.specs.declared.Said.{Said}
-use Rattle.sequent.specs.Sequent.{Flag, Hypothesis, Sequent, isHidden, isSelected, isVisible, countOf}
+use Rattle.sequent.specs.Sequent.{Sequent, isHidden, isSelected, isVisible, countOf}
 use Rattle.sequent.specs.File.{encodeSequent}
 use Rattle.sequent.specs.Refusal.{saidOf}
 use Rattle.sequent.specs.ReadFile.{Seen, seen, not-seen, readSequent}
-use Rattle.sequent.specs.Lent.{lentPredicate, lentList}
+use Rattle.sequent.specs.Lent.{lentList}
 use Rattle.sequent.specs.declared.Why.the-variants as why
 use Rattle.sequent.specs.declared.Counted.{Counted}
 use Rattle.sequent.specs.declared.Counted.the-variants as counted

@@ -1,18 +1,18 @@
 -- What the functions of the file reader answer, on bytes and places; and what they leave in the places.
-use Prim.Native.Nat.{ℕ, zero, suc, _+_, _-_, _^_, _≤_}
+use Prim.Native.Nat.{ℕ, suc, _+_, _-_, _≤_}
 use mathlib.Core.Path.{_≡_}
 use mathlib.Core.List.{List, []}
-use mathlib.Core.Bool.{Bool, true, false, _||_}
+use mathlib.Core.Bool.{_||_}
 use lib.ListN.{length, getD, take, drop}
 use lib.Dec.{ltb, leb, eqb}
-use lib.Bits.{bitOr}
 use Rattle.formula.specs.Pick.{pick}
 use Rattle.formula.specs.Tree.{Tree, encode}
-use Rattle.formula.specs.Equal.{sameAt}
 use Rattle.sequent.specs.Sequent.{Hypothesis, Sequent}
 use Rattle.sequent.specs.ReadFile.{Seen, seen, not-seen, onSeen, predicateAt, hypothesesAt, badMark, badVersion, badNumbers, readSequent}
 use Rattle.sequent.specs.Lent.{toEnd, predicatesAt}
 use Rattle.sequent.specs.Desk.{Holds, Open, startsFrom, AllStand}
+use Rattle.sequent.specs.DeskBytes.{findAt}
+use Rattle.sequent.specs.Masks.{withBit}
 use Rattle.sequent.specs.declared.Why.{Why}
 use Rattle.sequent.specs.declared.Why.the-variants as why
 use Rattle.sequent.specs.declared.View.{View}
@@ -47,23 +47,9 @@ headerAt s =
     checked.Fine)))
 
 -- ---- a hypothesis, after those that stand at their places
--- the hypothesis from p to q, a flag byte and a formula, has the formula that stands from a to e
-unfoldable pub hasFormula : List ℕ → ℕ → ℕ → ℕ → ℕ → Bool
-hasFormula s p q a e =
-    pick (leb q p) false
-    (pick (ltb (length s) q) false
-    (pick (ltb e a) false
-    (pick (ltb (length s) e) false
-    (pick (eqb (q - p - 1) (e - a)) (sameAt (e - a) s (p + 1) s a) false))))
-
--- one of n hypotheses has it, from hypothesis j on
-unfoldable pub twiceFrom : List ℕ → List ℕ → ℕ → ℕ → ℕ → ℕ → Bool
-twiceFrom s places zero j a e = false
-twiceFrom s places (suc n) j a e = pick (hasFormula s (getD places j 0) (getD places (j + 1) 0) a e) true (twiceFrom s places n (j + 1) a e)
-
 abbrev pub unlessTwice : List ℕ → List ℕ → ℕ → ℕ → Ended → Item
 unlessTwice s places i p (ended.Stopped x) = item.Stopped x
-unlessTwice s places i p (ended.At e) = pick (twiceFrom s places i 0 (p + 1) e) (item.Stopped (stop why.Twice (p + 1))) (item.Read (getD s p 0) e)
+unlessTwice s places i p (ended.At e) = pick (ltb (findAt s places i s (p + 1) e) i) (item.Stopped (stop why.Twice (p + 1))) (item.Read (getD s p 0) e)
 
 -- the flag, the formula, then 10
 unfoldable pub itemAt : List ℕ → List ℕ → List ℕ → ℕ → ℕ → Item
@@ -78,8 +64,8 @@ withHypothesis v b e = record {
   t = v .t;
   h = v .h + 1;
   end = e;
-  hidden = pick (eqb b 1) (bitOr (v .hidden) (2 ^ v .h)) (v .hidden);
-  selected = pick (eqb b 2) (bitOr (v .selected) (2 ^ v .h)) (v .selected);
+  hidden = pick (eqb b 1) (withBit (v .hidden) (v .h)) (v .hidden);
+  selected = pick (eqb b 2) (withBit (v .selected) (v .h)) (v .selected);
 }
 
 -- ---- what is read and left in the places, or why not

@@ -1,7 +1,7 @@
 -- Document 01: reading a sequent file, left to right; "The header is asked 1 (length), 2, 3, 4 in that order".
 use Prim.Native.Nat.{ℕ, zero, suc, _+_}
 use mathlib.Core.List.{List, [], _∷_, _++_}
-use mathlib.Core.Bool.{Bool, true, false, not, _&&_, _||_}
+use mathlib.Core.Bool.{Bool, not, _&&_, _||_}
 use mathlib.Core.Option.{Option, some, none}
 use lib.ListN.{length, getD}
 use lib.Dec.{ltb, leb, eqb}

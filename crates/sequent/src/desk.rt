@@ -4,7 +4,7 @@ ghost use Prim.Native.Nat.{_+_, _-_, _<_, _≤_};
 ghost use lib.ListN.{length, set};
 ghost use lib.Seq.{sets, slice};
 ghost use Rattle.sequent.specs.Desk.{FindIs, AppendIs, FinishIs};
-ghost use Rattle.sequent.specs.DeskBytes.{LaidIs, sameRange, findAt, grown, Fitting, fitsIn, lowByte, withHeader, withFlags, fileOn};
+ghost use Rattle.sequent.specs.DeskBytes.{LaidIs, sameRange, hasFormula, findAt, grown, Fitting, fitsIn, lowByte, withHeader, withFlags, fileOn};
 use super::Appended;
 use super::Done;
 use super::View;
@@ -45,30 +45,40 @@ pub fn lay(s: &[u8], v: View, desk: &mut [u8])
     copy_range(s, 0, end, desk, 0);
 }
 
-// Whether the formula from p + 1 up to q on the desk is the one from a to e in x; the lengths are compared first.
-fn same_range(desk: &[u8], p: usize, q: usize, x: &[u8], a: usize, e: usize) -> bool
-    ensures { λ r. ⌜ r ≡ sameRange (now (desk .entry)) p q (now (x .entry)) a e ⌝ }
+// Whether x[a..e] is y[b..f]: the lengths first.
+pub fn same_range(x: &[u8], a: usize, e: usize, y: &[u8], b: usize, f: usize) -> bool
+    ensures { λ r. ⌜ r ≡ sameRange (now (x .entry)) a e (now (y .entry)) b f ⌝ }
 {
-    if desk.len() < q {
-        return false;
-    }
-    if q <= p {
-        return false;
-    }
     if x.len() < e {
         return false;
     }
     if e < a {
         return false;
     }
-    if q - p - 1 != e - a {
+    if y.len() < f {
         return false;
     }
-    same(desk, p + 1, x, a, e - a)
+    if f < b {
+        return false;
+    }
+    if e - a != f - b {
+        return false;
+    }
+    same(x, a, y, b, e - a)
+}
+
+// Whether the hypothesis from p to q has the formula x[a..e], after its flag byte.
+fn has_formula(desk: &[u8], p: usize, q: usize, x: &[u8], a: usize, e: usize) -> bool
+    ensures { λ r. ⌜ r ≡ hasFormula (now (desk .entry)) p q (now (x .entry)) a e ⌝ }
+{
+    if q <= p {
+        return false;
+    }
+    same_range(desk, p + 1, q, x, a, e)
 }
 
 // The first of h positions where the formula of x from a to e stands, or h; the slice's length bounds the positions.
-fn find_at(desk: &[u8], places: &[usize], h: usize, x: &[u8], a: usize, e: usize) -> usize
+pub fn find_at(desk: &[u8], places: &[usize], h: usize, x: &[u8], a: usize, e: usize) -> usize
     ensures { λ r. ⌜ r ≡ findAt (now (desk .entry)) (now (places .entry)) h (now (x .entry)) a e ⌝ }
 {
     if places.len() <= h {
@@ -76,7 +86,7 @@ fn find_at(desk: &[u8], places: &[usize], h: usize, x: &[u8], a: usize, e: usize
     }
     let mut i = 0usize;
     while i < h {
-        if same_range(desk, places[i], places[i + 1], x, a, e) {
+        if has_formula(desk, places[i], places[i + 1], x, a, e) {
             return i;
         }
         i += 1;

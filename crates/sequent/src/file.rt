@@ -1,16 +1,16 @@
 // The sequent file, read left to right in one pass.
 ghost use mathlib.Core.Path.{_≡_};
 ghost use mathlib.Core.Bool.{_||_};
-ghost use Prim.Native.Nat.{_+_, _^_, _<_, _≤_};
+ghost use Prim.Native.Nat.{_+_, _<_, _≤_};
 ghost use lib.ListN.{length, getD, take, drop};
 ghost use lib.Dec.{ltb};
-ghost use lib.Bits.{bitOr};
+ghost use Rattle.sequent.specs.Masks.{withBit};
 ghost use Rattle.formula.specs.Pick.{pick};
 ghost use Rattle.formula.specs.Columns.{table};
 ghost use Rattle.sequent.specs.ReadFile.{badMark, badVersion, badNumbers, typesAt, predicateAt, bodyAt};
 ghost use Rattle.sequent.specs.Lent.{toEnd};
 ghost use Rattle.sequent.specs.Desk.{OpenedIs};
-ghost use Rattle.sequent.specs.ReadBytes.{checkOf, endOf, headerAt, hasFormula, twiceFrom, itemAt, withHypothesis, HypothesesAre, restAt, StageIs, WholeIs};
+ghost use Rattle.sequent.specs.ReadBytes.{checkOf, endOf, headerAt, itemAt, withHypothesis, HypothesesAre, restAt, StageIs, WholeIs};
 use super::Checked;
 use super::Ended;
 use super::Item;
@@ -19,6 +19,8 @@ use super::Stage;
 use super::Stop;
 use super::View;
 use super::Why;
+use super::desk::find_at;
+use super::mask::with_bit;
 use super::refusal::said_of;
 use formula::Reading;
 use formula::Sort;
@@ -159,45 +161,6 @@ pub fn check_last(s: &[u8], rows: &[u64; 51], types: &[u8], p: usize) -> Checked
     }
 }
 
-// Whether the hypothesis from p to q has the formula that stands from a to e: the lengths first.
-fn has_formula(s: &[u8], p: usize, q: usize, a: usize, e: usize) -> bool
-    ensures { λ r. ⌜ r ≡ hasFormula (now (s .entry)) p q a e ⌝ }
-{
-    if q <= p {
-        return false;
-    }
-    if s.len() < q {
-        return false;
-    }
-    if e < a {
-        return false;
-    }
-    if s.len() < e {
-        return false;
-    }
-    if q - p - 1 != e - a {
-        return false;
-    }
-    same(s, p + 1, s, a, e - a)
-}
-
-// Whether the formula from a to e is one of the first h hypotheses.
-fn is_twice(s: &[u8], places: &[usize; 65], h: usize, a: usize, e: usize) -> bool
-    requires { ⌜ h ≤ 64 ⌝ }
-    ensures { λ r. ⌜ r ≡ twiceFrom (now (s .entry)) (now (places .entry)) h 0 a e ⌝ }
-{
-    let mut j = 0usize;
-    let mut left = h;
-    while left != 0 {
-        if has_formula(s, places[j], places[j + 1], a, e) {
-            return true;
-        }
-        j += 1;
-        left -= 1;
-    }
-    false
-}
-
 // The hypothesis after those of v: its flag, its formula, then 10 at the formula's first byte.
 fn hypothesis_at(s: &[u8], rows: &[u64; 51], types: &[u8], places: &[usize; 65], v: View) -> Item
     requires { ⌜ now rows ≡ table ⌝ }
@@ -222,7 +185,8 @@ fn hypothesis_at(s: &[u8], rows: &[u64; 51], types: &[u8], places: &[usize; 65],
     match r {
         Ended::Stopped(x) => Item::Stopped(x),
         Ended::At(end) => {
-            if is_twice(s, places, v.h, p + 1, end) {
+            let earlier = find_at(s, places, v.h, s, p + 1, end);
+            if earlier < v.h {
                 return Item::Stopped(Stop {
                     why: Why::Twice,
                     at: p + 1,
@@ -234,11 +198,11 @@ fn hypothesis_at(s: &[u8], rows: &[u64; 51], types: &[u8], places: &[usize; 65],
 }
 
 // A mask with bit i set if it is to be.
-fn with_bit(m: u64, i: usize, on: bool) -> u64
+fn bit_if(m: u64, i: usize, on: bool) -> u64
     requires { ⌜ i < 64 ⌝ }
-    ensures { λ r. ⌜ r ≡ pick on (bitOr m (2 ^ i)) m ⌝ }
+    ensures { λ r. ⌜ r ≡ pick on (withBit m i) m ⌝ }
 {
-    if on { m | (1u64 << i) } else { m }
+    if on { with_bit(m, i) } else { m }
 }
 
 // One more hypothesis, with this flag byte and this end.
@@ -251,8 +215,8 @@ fn with_hypothesis(v: View, flag: u8, end: usize) -> View
         t: v.t,
         h: i + 1,
         end: end,
-        hidden: with_bit(v.hidden, i, flag == 1),
-        selected: with_bit(v.selected, i, flag == 2),
+        hidden: bit_if(v.hidden, i, flag == 1),
+        selected: bit_if(v.selected, i, flag == 2),
     }
 }
 

@@ -8,7 +8,7 @@ use Rattle.sequent.proofs.desk.find_at.Statement.{statement}
 use Rattle.sequent.proofs.desk.find_at.Tie as tie
 use Rattle.sequent.proofs.desk.find_at.Reads as reads
 use Rattle.sequent.proofs.desk.find_at.Lts as lts
-use Rattle.sequent.proofs.desk.same_range.Reads as same-range-reads
+use Rattle.sequent.proofs.desk.has_formula.Reads as has-formula-reads
 
 abbrev Inv-loop : tie.InvT-loop
 Inv-loop desk places h x a e i₀ i =
