@@ -27,6 +27,10 @@ pub mod GoodType
 -- the packed table is the table in words; one bit for each kind
 pub mod TableIs
 pub mod Wants
+-- each turn of the reader's loop
+pub mod NameLaws
+pub mod Turns
+pub mod WalkLaws
 -- the code's reading of bytes is document 01's
 pub mod Stands
 pub mod ReadStands

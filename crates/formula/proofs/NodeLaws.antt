@@ -12,8 +12,8 @@ use borrow.Author.Tests.{le-ltb, lt-ltb, le-leb, lt-leb, eq-eqb, ne-eqb, leb-fal
 use mir.Syntax.{w64}
 use mir.Val.{Fits}
 use Rattle.formula.specs.Pick.{pick}
-use Rattle.formula.specs.Columns.{table, rowAt, field, countBad, indexBad, countOf, bindsOf, identType, typeBy}
-use Rattle.formula.specs.Bytes.{byteAt, ownByte, no, theOps, headRow, headAt, nextWant, unlike, badAfter, isPair, arePairs, typeAt, skipFrom, skipEnd, leafEnds, thenShape, shape, onHead, onRead, readBelow, noneBelow, listWith, readList, belowAt, endOf, readingOf, readWhole}
+use Rattle.formula.specs.Columns.{table, rowAt, field, own, sort, countBad, indexBad, countOf, bindsOf, identType, typeBy}
+use Rattle.formula.specs.Bytes.{byteAt, ownByte, no, theOps, headRow, headAt, seenAt, refusedHere, nameAt}
 use Rattle.formula.specs.declared.Cause.{Cause}
 use Rattle.formula.specs.declared.Cause.the-variants as cause
 use Rattle.formula.specs.declared.Refusal.{Refusal}
@@ -26,6 +26,7 @@ use Rattle.formula.specs.declared.Answer.the-variants as answer
 use Rattle.formula.specs.declared.Ends.{Ends}
 use Rattle.formula.specs.declared.Reading.{Reading}
 use Rattle.formula.specs.declared.Reading.the-variants as reading
+use Rattle.formula.proofs.Choices.{never}
 
 -- ---- one node
 module _ (s : List ℕ) (i : ℕ) where
@@ -97,5 +98,93 @@ module _ (s types : List ℕ) (end d level want at : ℕ) where
       → h ≡ headAt s types end d level want at
   unfolding headAt
   headAt-row h x n b l e f g k = simp (lt-leb _ _ l, e, k, f, g)
+
+pub seenAt-is : (s types : List ℕ) (at c x n t : ℕ) → c ≡ byteAt s at → x ≡ rowAt c → n ≡ ownByte x s (at + 1) → t ≡ typeBy x types n → record { row = x; byte = n; ty = t } ≡ seenAt s types at
+unfolding seenAt
+seenAt-is s types at c x n t e f g h = rw (h, g, f, e) refl
+
+-- ---- whether it is refused
+module _ (t end d want at x n o : ℕ) (e : o ≡ field x 0) where
+  pub refused-long : end ≤ at + o → true ≡ refusedHere t end d want at x n
+  unfolding refusedHere
+  refused-long h = simp (← e, le-leb _ _ h)
+
+  module _ (h : at + o < end) (f : ℕ) (g : f ≡ field x 56) where
+    pub refused-sort : bitAnd want f ≡ 0 → true ≡ refusedHere t end d want at x n
+    unfolding refusedHere
+    refused-sort k = simp (← e, lt-leb _ _ h, ← g, eq-eqb _ _ k)
+
+    module _ (i : bitAnd want f ≡ 0 → ⊥) (b : Bool) (l : b ≡ countBad x n) where
+      pub refused-count : b ≡ true → true ≡ refusedHere t end d want at x n
+      unfolding refusedHere
+      refused-count p = simp (← e, lt-leb _ _ h, ← g, ne-eqb _ _ i, ← l, p)
+
+      pub refused-index : b ≡ false → (v : Bool) → v ≡ indexBad x n t d → v ≡ refusedHere t end d want at x n
+      unfolding refusedHere
+      refused-index p v m = m ∙ simp (← e, lt-leb _ _ h, ← g, ne-eqb _ _ i, ← l, p)
+
+pub ruleset refusals = (refused-long, refused-sort, refused-count, refused-index)
+
+-- ---- a head that is accepted
+else-arm : (b : Bool) (c : Cause) (at : ℕ) (h : Head) (o : Ops) → pick b (no c at) h ≡ head.Node o → (b ≡ false) × (h ≡ head.Node o)
+else-arm true c at h o e = let z : _≡_ {A = ℕ} 0 1 = cc in absurd (omega (arith, z))
+else-arm false c at h o e = (refl, e)
+
+no-arm : (b c : Bool) → pick b true c ≡ false → (b ≡ false) × (c ≡ false)
+no-arm true c e = never (sym e)
+no-arm false c e = (refl, e)
+
+module _ (s types : List ℕ) (end d level want at : ℕ) where
+  abbrev rowHere : ℕ
+  rowHere = rowAt (byteAt s at)
+
+  abbrev byteHere : ℕ
+  byteHere = ownByte rowHere s (at + 1)
+
+  -- an accepted head has a level left, and its node is not refused
+  pub node-stood : (o : Ops) → headAt s types end d level want at ≡ head.Node o
+      → (eqb level 0 ≡ false) × ((leb end (at + own rowHere) ≡ false) × (refusedHere (length types) end d want at rowHere byteHere ≡ false))
+  unfolding headAt headRow refusedHere
+  node-stood o e =
+      let a = else-arm (leb (length s) at) cause.Short at _ o e in
+      let b = else-arm (leb (length s - at) (own rowHere)) cause.Short at _ o (a .1) in
+      let c = else-arm (eqb (bitAnd want (sort rowHere)) 0) cause.Code at _ o (b .1) in
+      let g = else-arm (countBad rowHere byteHere) cause.Count at _ o (c .1) in
+      let i = else-arm (indexBad rowHere byteHere (length types) d) cause.Index at _ o (g .1) in
+      let j = else-arm (eqb level 0) cause.Deep at _ o (i .1) in
+      let k = else-arm (leb end (at + own rowHere)) cause.Long at _ o (j .1) in
+      (j .0, (k .0, rw (k .0, c .0, g .0, i .0) refl))
+
+  -- what is not refused stands, where a level is left
+  pub stands : (level ≡ 0 → ⊥) → at < end → end ≤ length s → refusedHere (length types) end d want at rowHere byteHere ≡ false → headAt s types end d level want at ≡ head.Node (theOps types at rowHere byteHere)
+  unfolding headAt headRow refusedHere
+  stands l h i e =
+      let a = no-arm (leb end (at + own rowHere)) _ e in
+      let b = no-arm (eqb (bitAnd want (sort rowHere)) 0) _ (a .1) in
+      let c = no-arm (countBad rowHere byteHere) (indexBad rowHere byteHere (length types) d) (b .1) in
+      let k = leb-false end (at + own rowHere) (a .0) in
+      rw (lt-leb (length s) at (omega arith), lt-leb (length s - at) (own rowHere) (omega arith), b .0, c .0, c .1, ne-eqb level 0 l, a .0) refl
+
+-- ---- an identifier
+module _ (s types : List ℕ) (end want at : ℕ) where
+  pub nameAt-end : end ≤ at + 1 → 0 ≡ nameAt s types end want at
+  unfolding nameAt
+  nameAt-end h = simp (le-leb _ _ h)
+
+  module _ (h : at + 1 < end) where
+    pub nameAt-other : (getD s at 0 ≡ 32 → ⊥) → 0 ≡ nameAt s types end want at
+    unfolding nameAt byteAt
+    nameAt-other k = simp (lt-leb _ _ h, ne-eqb _ _ k)
+
+    module _ (k : getD s at 0 ≡ 32) (n ty : ℕ) (n≡ : n ≡ getD s (at + 1) 0) (ty≡ : ty ≡ identType types n) where
+      pub nameAt-unfit : bitAnd want ty ≡ 0 → 0 ≡ nameAt s types end want at
+      unfolding nameAt byteAt
+      nameAt-unfit l = simp (lt-leb _ _ h, eq-eqb _ _ k, ← n≡, ← ty≡, eq-eqb _ _ l)
+
+      pub nameAt-fit : (bitAnd want ty ≡ 0 → ⊥) → ty ≡ nameAt s types end want at
+      unfolding nameAt byteAt
+      nameAt-fit l = simp (lt-leb _ _ h, eq-eqb _ _ k, ← n≡, ← ty≡, ne-eqb _ _ l)
+
+pub ruleset names = (nameAt-end, nameAt-other, nameAt-unfit, nameAt-fit)
 
 pub ruleset nodes = (byteAt-in, byteAt-wide, byteAt-out, ownByte-none, ownByte-some, headAt-end, headAt-row)

@@ -1,20 +1,13 @@
 -- The cases of reading a list of operands, and a whole formula.
-use Prim.Native.Nat.{ℕ, zero, suc, _+_, _-_, _*_, _/_, _%_, _^_, _<_, _≤_}
-use mathlib.Core.Path.{_≡_, refl, sym, ap, _∙_, subst}
+use Prim.Native.Nat.{ℕ, zero, suc, _+_, _-_, _<_, _≤_}
+use mathlib.Core.Path.{_≡_, refl}
 use mathlib.Core.Bool.{Bool, true, false}
 use mathlib.Core.List.{List}
-use native.Mathlib.Numerals.{sub-one}
-use native.Mathlib.Omega.{arith}
-use lib.ListN.{length, getD, List·getD-eq-default}
-use lib.Dec.{eqb, ltb, leb}
+use lib.ListN.{length}
 use lib.Bits.{bitAnd}
-use borrow.Author.Tests.{le-ltb, lt-ltb, le-leb, lt-leb, eq-eqb, ne-eqb, leb-false, ltb-false, eqb-true}
-use mir.Syntax.{w64}
-use mir.Val.{Fits}
-use Rattle.formula.specs.Pick.{pick}
-use Rattle.formula.specs.Columns.{table, rowAt, rootRow, field, countBad, indexBad, countOf, bindsOf, identType, typeBy}
-use Rattle.formula.specs.Bytes.{byteAt, ownByte, no, theOps, headRow, headAt, nextWant, unlike, badAfter, isPair, arePairs, typeAt, skipFrom, skipEnd, leafEnds, thenShape, shape, onHead, onRead, readBelow, noneBelow, listWith, readList, belowAt, endOf, readingOf, readWhole}
-use Rattle.formula.specs.declared.Cause.{Cause}
+use borrow.Author.Tests.{le-ltb, lt-ltb, eq-eqb, ne-eqb}
+use Rattle.formula.specs.Columns.{rootRow, field, countOf, bindsOf}
+use Rattle.formula.specs.Bytes.{headAt, nextWant, unlike, shape, listWith, readList, belowAt, firstMark, judged, nextOperand, operandsOf, keeping, refusalOf, readFrom, endOf, wholeAt, readWhole}
 use Rattle.formula.specs.declared.Cause.the-variants as cause
 use Rattle.formula.specs.declared.Refusal.{Refusal}
 use Rattle.formula.specs.declared.Ops.{Ops}
@@ -23,8 +16,8 @@ use Rattle.formula.specs.declared.Head.the-variants as head
 use Rattle.formula.specs.declared.Got.{Got}
 use Rattle.formula.specs.declared.Answer.{Answer}
 use Rattle.formula.specs.declared.Answer.the-variants as answer
+use Rattle.formula.specs.declared.Walk.{Walk}
 use Rattle.formula.specs.declared.Ends.{Ends}
-use Rattle.formula.specs.declared.Reading.{Reading}
 use Rattle.formula.specs.declared.Reading.the-variants as reading
 use Rattle.formula.specs.declared.Sort.{Sort}
 
@@ -60,119 +53,67 @@ module _ (s types : List ℕ) (others left ty first p : ℕ) where
     unfolding unlike
     unlike-yes w = simp (eq-eqb _ _ h, eq-eqb _ _ k, eq-eqb _ _ l, ← q, w)
 
-module _ (s types : List ℕ) (others want left p parent ty bad below : ℕ) where
-  pub bad-fit : bitAnd want ty ≡ 0 → parent ≡ badAfter s types others want left p parent ty bad below
-  unfolding badAfter
-  bad-fit h = simp (eq-eqb _ _ h)
+module _ (s types : List ℕ) (w : Walk) (ty : ℕ) where
+  pub judged-fit : bitAnd (w .want) ty ≡ 0 → w .parent ≡ judged s types w ty
+  unfolding judged
+  judged-fit h = simp (eq-eqb _ _ h)
 
-  module _ (h : bitAnd want ty ≡ 0 → ⊥) (u : Bool) (e : u ≡ unlike s types others left ty parent p) where
-    pub bad-unlike : u ≡ true → parent ≡ badAfter s types others want left p parent ty bad below
-    unfolding badAfter
-    bad-unlike k = simp (ne-eqb _ _ h, ← e, k)
+  module _ (h : bitAnd (w .want) ty ≡ 0 → ⊥) (u : Bool) (e : u ≡ unlike s types (w .others) (w .left) ty (w .parent) (w .at)) where
+    pub judged-unlike : u ≡ true → w .parent ≡ judged s types w ty
+    unfolding judged
+    judged-unlike k = simp (ne-eqb _ _ h, ← e, k)
 
-    pub bad-below : u ≡ false → bad ≡ 0 → below ≡ badAfter s types others want left p parent ty bad below
-    unfolding badAfter
-    bad-below k l = simp (ne-eqb _ _ h, ← e, k, eq-eqb _ _ l)
+    pub judged-bad : u ≡ false → w .bad ≡ judged s types w ty
+    unfolding judged
+    judged-bad k = simp (ne-eqb _ _ h, ← e, k)
 
-    pub bad-first : u ≡ false → (bad ≡ 0 → ⊥) → bad ≡ badAfter s types others want left p parent ty bad below
-    unfolding badAfter
-    bad-first k l = simp (ne-eqb _ _ h, ← e, k, ne-eqb _ _ l)
+module _ (a b : ℕ) where
+  pub first-none : a ≡ 0 → b ≡ firstMark a b
+  unfolding firstMark
+  first-none h = simp (eq-eqb _ _ h)
 
-pub ruleset marks = (nextWant-ty, nextWant-rest, unlike-others, unlike-left, unlike-ty, unlike-no, unlike-yes, bad-fit, bad-unlike, bad-below, bad-first)
+  pub first-some : (a ≡ 0 → ⊥) → a ≡ firstMark a b
+  unfolding firstMark
+  first-some h = simp (ne-eqb _ _ h)
 
--- an accepted head has a level left
-else-arm : (b : Bool) (c : Cause) (at : ℕ) (h : Head) (o : Ops) → pick b (no c at) h ≡ head.Node o → (b ≡ false) × (h ≡ head.Node o)
-else-arm true c at h o e = let z : _≡_ {A = ℕ} 0 1 = cc in absurd (omega (arith, z))
-else-arm false c at h o e = (refl, e)
+pub ruleset marks = (nextWant-ty, nextWant-rest, unlike-others, unlike-left, unlike-ty, unlike-no, unlike-yes, judged-fit, judged-unlike, judged-bad, first-none, first-some)
 
-pub head-level : (s types : List ℕ) (end d level want at : ℕ) (h : Head) (o : Ops) → h ≡ headAt s types end d level want at → h ≡ head.Node o → level ≡ 0 → ⊥
-unfolding headAt headRow
-head-level s types end d level want at h o e q z =
-    let x = rowAt (byteAt s at) in
-    let n = ownByte x s (at + 1) in
-    let f : headAt s types end d level want at ≡ head.Node o = sym e ∙ q in
-    let a = else-arm (leb (length s) at) cause.Short at _ o f in
-    let b = else-arm (leb (length s - at) (field x 0)) cause.Short at _ o (a .1) in
-    let c = else-arm (eqb (bitAnd want (field x 56)) 0) cause.Code at _ o (b .1) in
-    let g = else-arm (countBad x n) cause.Count at _ o (c .1) in
-    let i = else-arm (indexBad x n (length types) d) cause.Index at _ o (g .1) in
-    let j = else-arm (eqb level 0) cause.Deep at _ o (i .1) in
-    let k : true ≡ false = sym (eq-eqb _ _ z) ∙ j .0 in
-    let y : _≡_ {A = ℕ} 0 1 = ap (λ (v : Bool). pick v 0 1) k in absurd (omega (arith, y))
+-- ---- where the reader stands
+module _ (w : Walk) where
+  pub nextOperand-is : (ty next bad v : ℕ) → v ≡ nextWant (w .others) ty
+      → record { at = next; left = w .left - 1; want = v; others = w .others; parent = w .parent; d = w .d; level = w .level; bad = bad; kept = w .kept } ≡ nextOperand w ty next bad
+  unfolding nextOperand
+  nextOperand-is ty next bad v e = rw e refl
 
-module _ (f : ℕ → ℕ → ℕ → ℕ → ℕ → Answer) (d : ℕ) (o : Ops) where
-  pub below-leaf : o .count ≡ 0 → answer.Read (record { next = o .next; bad = 0 }) ≡ readBelow f d o
-  unfolding readBelow
-  below-leaf h = simp (eq-eqb _ _ h)
+  pub operandsOf-is : (x n kept o c f r b v : ℕ) → o ≡ field x 0 → c ≡ countOf x n → f ≡ field x 32 → r ≡ field x 40 → b ≡ bindsOf x n → v ≡ b
+      → record { at = w .at + o + 1; left = c; want = f; others = r; parent = w .at + 1; d = w .d + v; level = w .level - 1; bad = 0; kept = kept } ≡ operandsOf w x n kept
+  unfolding operandsOf
+  operandsOf-is x n kept o c f r b v e g h i j k = rw (k, j, e, g, h, i) refl
 
-  pub below-list : (b : ℕ) (z : Answer) → (o .count ≡ 0 → ⊥) → b ≡ o .binds → z ≡ f (d + b) (o .row) (o .mark) (o .count) (o .next) → z ≡ readBelow f d o
-  unfolding readBelow
-  below-list b z h e k = k ∙ rw e (simp (ne-eqb _ _ h))
+  pub keeping-is : (k m : ℕ) → m ≡ firstMark k (w .kept)
+      → record { at = w .at; left = w .left; want = w .want; others = w .others; parent = w .parent; d = w .d; level = w .level; bad = w .bad; kept = m } ≡ keeping k w
+  unfolding keeping
+  keeping-is k m e = rw e refl
 
-pub below-at : (l : ℕ) (s types : List ℕ) (end d : ℕ) (o : Ops) (a : Answer) → (l ≡ 0 → ⊥) → a ≡ readBelow (readList (l - 1) s types end) d o → a ≡ belowAt l s types end d o
-unfolding belowAt
-below-at zero s types end d o a h e = absurd (h refl)
-below-at (suc l) s types end d o a h e = rw (sub-one (suc l)) at e
+pub wholeAt-is : (σ : Sort) (start x f r : ℕ) → x ≡ rootRow σ → f ≡ field x 32 → r ≡ field x 40
+    → record { at = start; left = 1; want = f; others = r; parent = 1; d = 0; level = 32; bad = 0; kept = 0 } ≡ wholeAt σ start
+unfolding wholeAt
+wholeAt-is σ start x f r e g h = rw (g, h, e) refl
+
+module _ (h z : Head) (e : h ≡ z) where
+  pub refusal-no : (x : Refusal) → h ≡ head.Refused x → answer.Refused x ≡ refusalOf z
+  refusal-no x q = rw (← e, q) refl
+
+  pub refusal-node : (o : Ops) → h ≡ head.Node o → answer.Read (record { next = o .next; bad = 0 }) ≡ refusalOf z
+  refusal-node o q = rw (← e, q) refl
+
+pub ruleset walks = (nextOperand-is, operandsOf-is, keeping-is, wholeAt-is, refusal-no, refusal-node)
 
 pub list-starts : (l : ℕ) (s types : List ℕ) (end d x parent n at r f : ℕ) → r ≡ field x 40 → f ≡ field x 32
     → listWith (headAt s types end d l) (belowAt l s types end d) s types r parent n f at 0 ≡ readList l s types end d x parent n at
 unfolding readList belowAt
 list-starts zero s types end d x parent n at r f p q = rw (p, q) refl
 list-starts (suc l) s types end d x parent n at r f p q = rw (p, q) refl
-
-module _ (hd : ℕ → ℕ → Head) (below : Ops → Answer) (s types : List ℕ) (others parent n want p bad : ℕ) (z : Answer) (e : listWith hd below s types others parent n want p bad ≡ z) where
-  pub list-ends : n ≡ 0 → answer.Read (record { next = p; bad = bad }) ≡ z
-  unfolding listWith
-  list-ends h = go n e h
-    where
-      go : (n : ℕ) → listWith hd below s types others parent n want p bad ≡ z → n ≡ 0 → answer.Read (record { next = p; bad = bad }) ≡ z
-      go zero e h = e
-      go (suc n) e h = absurd (omega (arith, h))
-
-  module _ (i : n ≡ 0 → ⊥) (h : Head) (h≡ : h ≡ hd want p) where
-    pub list-no : (x : Refusal) → h ≡ head.Refused x → answer.Refused x ≡ z
-    unfolding listWith
-    list-no x q = go n e i
-      where
-        go : (n : ℕ) → listWith hd below s types others parent n want p bad ≡ z → (n ≡ 0 → ⊥) → answer.Refused x ≡ z
-        go zero e i = absurd (i refl)
-        go (suc n) e i = simp (← h≡, q) at e
-
-    module _ (o : Ops) (q : h ≡ head.Node o) (a : Answer) (a≡ : a ≡ below o) where
-      pub list-below-no : (x : Refusal) → a ≡ answer.Refused x → answer.Refused x ≡ z
-      unfolding listWith
-      list-below-no x w = go n e i
-        where
-          go : (n : ℕ) → listWith hd below s types others parent n want p bad ≡ z → (n ≡ 0 → ⊥) → answer.Refused x ≡ z
-          go zero e i = absurd (i refl)
-          go (suc n) e i = simp (← h≡, q, ← a≡, w) at e
-
-      pub list-goes : (g : Got) → a ≡ answer.Read g → (v b : ℕ) → b ≡ badAfter s types others want n p parent (o .ty) bad (g .bad) → v ≡ nextWant others (o .ty)
-          → listWith hd below s types others parent (n - 1) v (g .next) b ≡ z
-      unfolding listWith
-      list-goes g w v b b≡ v≡ = rw v≡ (go n e i b≡)
-        where
-          go : (n : ℕ) → listWith hd below s types others parent n want p bad ≡ z → (n ≡ 0 → ⊥) → b ≡ badAfter s types others want n p parent (o .ty) bad (g .bad)
-              → listWith hd below s types others parent (n - 1) (nextWant others (o .ty)) (g .next) b ≡ z
-          go zero e i b≡ = absurd (i refl)
-          go (suc n) e i b≡ = rw (sub-one (suc n), b≡) (simp (← h≡, q, ← a≡, w) at e)
-
-pub deeper-fits : (d b l : ℕ) → d + 256 * l + 256 ≤ 8192 → b < 256 → d + b + 256 * l ≤ 8192
-deeper-fits d b l h k = omega arith
-
-pub below-fits : (d l : ℕ) → d + 256 * l ≤ 8192 → (l ≡ 0 → ⊥) → d + 256 * (l - 1) + 256 ≤ 8192
-below-fits d l h k = omega arith
-
-pub ops-falls : (l t : ℕ) → l * 2 + 1 ≡ t → (l ≡ 0 → ⊥) → (l - 1) * 2 + 2 < t
-ops-falls l t e h = omega arith
-
-pub below-falls : (l t : ℕ) → l * 2 + 2 ≡ t → l * 2 + 1 < t
-below-falls l t e = omega arith
-
-pub sum-fits : (d b l : ℕ) → d + 256 * l + 256 ≤ 8192 → b < 256 → Fits w64 (d + b)
-sum-fits d b l h k = record { fits = omega arith }
-
-pub ruleset lists = (head-level, below-leaf, below-list, below-at, list-starts, list-ends, list-no, list-below-no, list-goes, deeper-fits, below-fits, ops-falls, below-falls)
 
 module _ (len start : ℕ) where
   pub endOf-cut : start < len → 1024 < len - start → start + 1024 ≡ endOf len start
@@ -190,17 +131,17 @@ module _ (len start : ℕ) where
 pub ruleset ends = (endOf-cut, endOf-short, endOf-past)
 
 -- ---- a whole formula
-module _ (s types : List ℕ) (σ : Sort) (start e x : ℕ) (a : Answer) (e≡ : e ≡ endOf (length s) start) (x≡ : x ≡ rootRow σ) (a≡ : a ≡ readList 32 s types e 0 x 0 1 start) where
+module _ (s types : List ℕ) (σ : Sort) (start e : ℕ) (w : Walk) (a : Answer) (e≡ : e ≡ endOf (length s) start) (w≡ : w ≡ wholeAt σ start) (a≡ : a ≡ readFrom s types e w) where
   pub whole-no : (r : Refusal) → a ≡ answer.Refused r → reading.Refused r ≡ readWhole s types σ start
   unfolding readWhole
-  whole-no r q = rw (← e≡, ← x≡, ← a≡, q) refl
+  whole-no r q = rw (← e≡, ← w≡, ← a≡, q) refl
 
   pub whole-read : (g : Got) → a ≡ answer.Read g → g .bad ≡ 0 → reading.Read (g .next) ≡ readWhole s types σ start
   unfolding readWhole
-  whole-read g q h = rw (← e≡, ← x≡, ← a≡, q) (simp (eq-eqb _ _ h))
+  whole-read g q h = rw (← e≡, ← w≡, ← a≡, q) (simp (eq-eqb _ _ h))
 
   pub whole-type : (g : Got) → a ≡ answer.Read g → (g .bad ≡ 0 → ⊥) → reading.Refused (record { cause = cause.Type; at = g .bad - 1 }) ≡ readWhole s types σ start
   unfolding readWhole
-  whole-type g q h = rw (← e≡, ← x≡, ← a≡, q) (simp (ne-eqb _ _ h))
+  whole-type g q h = rw (← e≡, ← w≡, ← a≡, q) (simp (ne-eqb _ _ h))
 
 pub ruleset wholes = (whole-no, whole-read, whole-type)

@@ -15,7 +15,7 @@ use Rattle.formula.specs.Rows.{sortOfTy}
 use Rattle.formula.specs.Tree.{Tree}
 use Rattle.formula.specs.Wrong.{headType, firstWrong}
 use Rattle.formula.specs.Columns.{bit, sortMask, rootRow, field, first, rest}
-use Rattle.formula.specs.Bytes.{onHead, onRead, headAt, belowAt, readList, listWith, nextWant, unlike, badAfter, endOf, readingOf, readWhole}
+use Rattle.formula.specs.Bytes.{onHead, onRead, headAt, belowAt, listWith, nextWant, unlike, badAfter, readFrom, endOf, readingOf, wholeAt, readWhole}
 use Rattle.formula.specs.Reading.{Parsed, got, not-got, formulaAt}
 use Rattle.formula.specs.Formula.{typed?, asked8, treeAt, endOrRefusal, readFormula}
 use Rattle.formula.specs.declared.Sort.{Sort}
@@ -30,7 +30,7 @@ use Rattle.formula.proofs.Wants.{Wants, rootKinds, root-wants}
 use Rattle.formula.proofs.Goings.{answered, gives, markOf}
 use Rattle.formula.proofs.ListIs.{typeBit, OperandIs}
 use Rattle.formula.proofs.ReadIs.{operand-is}
-use Rattle.formula.proofs.ReaderLaws.{list-starts}
+use Rattle.formula.proofs.Turns.{keep-none}
 
 root-first : (σ : Sort) → sortMask σ ≡ first (rootRow σ)
 unfolding rootRow field
@@ -65,7 +65,7 @@ module _ (s types : List ℕ) (σ : Sort) (start : ℕ) where
   O = operand-is s types start 32 (omega arith) 0
 
   root-mark : (x : Tree) (q ty below : ℕ) → formulaAt s (length types) (start + 1024) 32 0 σ start ≡ got x q → ty ≡ typeBit (headType (typesOf types) x)
-      → badAfter s types (sortMask σ) (sortMask σ) 1 start 0 ty 0 below ≡ below
+      → badAfter s types (sortMask σ) (sortMask σ) 1 start 1 ty 0 below ≡ below
   unfolding badAfter unlike
   root-mark x q ty below e t =
       let T = O .has σ start x q e in
@@ -73,14 +73,14 @@ module _ (s types : List ℕ) (σ : Sort) (start : ℕ) where
       let k : among? (kindOf (T .0)) (rootKinds σ) ≡ true = subst (λ (ρ : Sort). among? (kindOf (T .0)) (rootKinds ρ) ≡ true) (T .2) (root-may (T .0)) in
       rw u (simp (root-wants σ .by-kind (kindOf (T .0)), k, some-sort σ))
 
-  whole-read : readList 32 s types end 0 (rootRow σ) 0 1 start ≡ answered (formulaAt s (length types) (start + 1024) 32 0 σ start) (λ x q. gives q (markOf (firstWrong (typesOf types) start x)))
-  unfolding listWith
+  whole-read : readFrom s types end (wholeAt σ start) ≡ answered (formulaAt s (length types) (start + 1024) 32 0 σ start) (λ x q. gives q (markOf (firstWrong (typesOf types) start x)))
+  unfolding readFrom wholeAt listWith
   whole-read =
-      sym (list-starts 32 s types end 0 (rootRow σ) 0 1 start (sortMask σ) (sortMask σ) (root-rest σ) (root-first σ))
-      ∙ O .goes (sortMask σ) (among (rootKinds σ)) σ start (root-wants σ) (omega arith)
-      (λ o g. gives (g .next) (badAfter s types (sortMask σ) (sortMask σ) 1 start 0 (o .ty) 0 (g .bad)))
+      keep-none (listWith (headAt s types end 0 32) (belowAt 32 s types end 0) s types (rest (rootRow σ)) 1 1 (first (rootRow σ)) start 0)
+      ∙ rw (← root-rest σ, ← root-first σ) (O .goes (sortMask σ) (among (rootKinds σ)) σ start (root-wants σ) (omega arith)
+      (λ o g. gives (g .next) (badAfter s types (sortMask σ) (sortMask σ) 1 start 1 (o .ty) 0 (g .bad)))
       (λ x q. gives q (markOf (firstWrong (typesOf types) start x)))
-      (λ x q o e t. ap (gives q) (root-mark x q (o .ty) (markOf (firstWrong (typesOf types) start x)) e t))
+      (λ x q o e t. ap (gives q) (root-mark x q (o .ty) (markOf (firstWrong (typesOf types) start x)) e t)))
 
   -- THE BRIDGE
   pub whole-is : (z : Reading) → z ≡ readWhole s types σ start → z ≡ readFormula s types σ start

@@ -1,5 +1,5 @@
--- Reading, on bytes, as the code does it: each definition is a function of the code.
-use Prim.Native.Nat.{ℕ, zero, suc, _+_, _-_, _*_}
+-- Reading, on bytes, as the code does it: each definition is a function of the code, or a list of operands as a whole.
+use Prim.Native.Nat.{ℕ, zero, suc, _+_, _-_, _*_, _<_, _≤_}
 use mathlib.Core.Path.{_≡_}
 use mathlib.Core.List.{List, [], _∷_}
 use mathlib.Core.Bool.{Bool, true, false}
@@ -17,6 +17,8 @@ use Rattle.formula.specs.declared.Head.the-variants as head
 use Rattle.formula.specs.declared.Got.{Got}
 use Rattle.formula.specs.declared.Answer.{Answer}
 use Rattle.formula.specs.declared.Answer.the-variants as answer
+use Rattle.formula.specs.declared.Seen.{Seen}
+use Rattle.formula.specs.declared.Walk.{Walk}
 use Rattle.formula.specs.declared.Ends.{Ends}
 use Rattle.formula.specs.declared.Sort.{Sort}
 use Rattle.formula.specs.declared.Reading.{Reading}
@@ -49,6 +51,26 @@ unfoldable pub headAt : List ℕ → List ℕ → ℕ → ℕ → ℕ → ℕ �
 headAt s types end d level want at =
     pick (leb (length s) at) (no cause.Short at)
     (headRow (length s) types end d level want at (rowAt (byteAt s at)) (ownByte (rowAt (byteAt s at)) s (at + 1)))
+
+-- what is read of the node at `at` before anything is asked of it
+unfoldable pub seenAt : List ℕ → List ℕ → ℕ → Seen
+seenAt s types at =
+    record {
+      row = rowAt (byteAt s at);
+      byte = ownByte (rowAt (byteAt s at)) s (at + 1);
+      ty = typeBy (rowAt (byteAt s at)) types (ownByte (rowAt (byteAt s at)) s (at + 1));
+    }
+
+-- whether a node with the row x and the byte n after its code is refused where a level is left; t identifiers
+unfoldable pub refusedHere : ℕ → ℕ → ℕ → ℕ → ℕ → ℕ → ℕ → Bool
+refusedHere t end d want at x n =
+    pick (leb end (at + own x)) true (pick (eqb (bitAnd want (sort x)) 0) true (pick (countBad x n) true (indexBad x n t d)))
+
+-- the kind of the identifier at `at`, where one stands that may stand here; else 0
+unfoldable pub nameAt : List ℕ → List ℕ → ℕ → ℕ → ℕ → ℕ
+nameAt s types end want at =
+    pick (leb end (at + 1)) 0
+    (pick (eqb (byteAt s at) 32) (pick (eqb (bitAnd want (identType types (byteAt s (at + 1)))) 0) 0 (identType types (byteAt s (at + 1)))) 0)
 
 -- ---- the shape of pairs
 unfoldable pub isPair : List ℕ → ℕ → Bool
@@ -134,6 +156,70 @@ unfoldable pub belowAt : ℕ → List ℕ → List ℕ → ℕ → ℕ → Ops �
 belowAt zero s types end d = noneBelow
 belowAt (suc l) s types end d = readBelow (readList l s types end) d
 
+-- ---- where the reader stands in a list of operands
+-- what holds of it all the way
+pub record Going (w : Walk) : Type 0 where
+  pub marked : 0 < w .parent
+  pub levels : 0 < w .level
+  pub few : w .left < 256
+  pub bounds : w .d + 256 * w .level ≤ 8192
+
+-- the first of two marks
+unfoldable pub firstMark : ℕ → ℕ → ℕ
+firstMark a b = pick (eqb a 0) b a
+
+-- the mark of the first wrong node so far, the next operand, of the type ty, judged
+unfoldable pub judged : List ℕ → List ℕ → Walk → ℕ → ℕ
+judged s types w ty =
+    pick (eqb (bitAnd (w .want) ty) 0) (w .parent) (pick (unlike s types (w .others) (w .left) ty (w .parent) (w .at)) (w .parent) (w .bad))
+
+-- after the next operand, of the type ty: the one at `next`
+unfoldable pub nextOperand : Walk → ℕ → ℕ → ℕ → Walk
+nextOperand w ty next bad =
+    record { at = next; left = w .left - 1; want = nextWant (w .others) ty; others = w .others; parent = w .parent; d = w .d; level = w .level; bad = bad; kept = w .kept }
+
+-- the operands of the next operand, which has the row x and the byte n after its code
+unfoldable pub operandsOf : Walk → ℕ → ℕ → ℕ → Walk
+operandsOf w x n kept =
+    record { at = w .at + own x + 1; left = countOf x n; want = first x; others = rest x; parent = w .at + 1; d = w .d + bindsOf x n; level = w .level - 1; bad = 0; kept = kept }
+
+-- the same operands, a mark found before them kept
+unfoldable pub keeping : ℕ → Walk → Walk
+keeping k w =
+    record { at = w .at; left = w .left; want = w .want; others = w .others; parent = w .parent; d = w .d; level = w .level; bad = w .bad; kept = firstMark k (w .kept) }
+
+abbrev pub keep : ℕ → Answer → Answer
+keep k (answer.Read g) = answer.Read (record { next = g .next; bad = firstMark k (g .bad) })
+keep k (answer.Refused x) = answer.Refused x
+
+-- the refusal of a node, of one that is refused
+abbrev pub refusalOf : Head → Answer
+refusalOf (head.Node o) = answer.Read (record { next = o .next; bad = 0 })
+refusalOf (head.Refused x) = answer.Refused x
+
+-- the operands that are left
+unfoldable pub readFrom : List ℕ → List ℕ → ℕ → Walk → Answer
+readFrom s types end w =
+    keep (w .kept) (listWith (headAt s types end (w .d) (w .level)) (belowAt (w .level) s types end (w .d)) s types (w .others) (w .parent) (w .left) (w .want) (w .at) (w .bad))
+
+-- the next operand, seen to be o, is there and stands
+pub record Stood (s types : List ℕ) (end : ℕ) (w : Walk) (o : Seen) : Type 0 where
+  pub within : end ≤ length s
+  pub here : w .at < end
+  pub more : w .left ≡ 0 → ⊥
+  pub going : Going w
+  pub seen : o ≡ seenAt s types (w .at)
+  pub free : refusedHere (length types) end (w .d) (w .want) (w .at) (o .row) (o .byte) ≡ false
+
+-- one turn: its operands are read from v on, and then the others
+pub record Turn (s types : List ℕ) (end : ℕ) (w : Walk) (ty : ℕ) (v : Walk) : Type 0 where
+  pub more : w .left ≡ 0 → ⊥
+  pub few : v .left < 256
+  pub level : v .level + 1 ≡ w .level
+  pub unmarked : v .bad ≡ 0
+  pub below : 0 < v .level → Going v
+  pub reads : readFrom s types end w ≡ onRead (readFrom s types end v) (λ g. readFrom s types end (nextOperand w ty (g .next) (g .bad)))
+
 -- ---- a whole formula
 -- the formula's bytes are before this
 unfoldable pub endOf : ℕ → ℕ → ℕ
@@ -143,5 +229,10 @@ abbrev pub readingOf : Answer → Reading
 readingOf (answer.Read g) = pick (eqb (g .bad) 0) (reading.Read (g .next)) (reading.Refused (record { cause = cause.Type; at = g .bad - 1 }))
 readingOf (answer.Refused r) = reading.Refused r
 
+-- a whole formula as one operand, of a parent that it always suits
+unfoldable pub wholeAt : Sort → ℕ → Walk
+wholeAt σ start =
+    record { at = start; left = 1; want = first (rootRow σ); others = rest (rootRow σ); parent = 1; d = 0; level = 32; bad = 0; kept = 0 }
+
 unfoldable pub readWhole : List ℕ → List ℕ → Sort → ℕ → Reading
-readWhole s types σ start = readingOf (readList 32 s types (endOf (length s) start) 0 (rootRow σ) 0 1 start)
+readWhole s types σ start = readingOf (readFrom s types (endOf (length s) start) (wholeAt σ start))

@@ -76,6 +76,28 @@ pub enum Answer {
     Refused(Refusal),
 }
 
+// Where the reader stands in a list of operands: the place of the next one, how many are left, what the next and the others
+// may be, the mark of their parent, the variables bound, the levels left, and the marks of the first wrong node of this list
+// and of what was read on the way to it.
+pub struct Walk {
+    pub at: usize,
+    pub left: usize,
+    pub want: usize,
+    pub others: usize,
+    pub parent: usize,
+    pub d: usize,
+    pub level: usize,
+    pub bad: usize,
+    pub kept: usize,
+}
+
+// What is read of a node before anything is asked of it: its row, the byte after its code, and its type by these.
+pub struct Seen {
+    pub row: u64,
+    pub byte: u8,
+    pub ty: usize,
+}
+
 // Where two expressions end, if their types are one.
 pub struct Ends {
     pub a: usize,

@@ -1,16 +1,20 @@
 // One node's own bytes: its code, and its count, index or literal.
 ghost use mathlib.Core.Path.{_≡_};
 ghost use Prim.Native.Nat.{ℕ, _+_, _^_, _<_, _≤_};
+ghost use lib.ListN.{length};
 ghost use Rattle.formula.specs.Columns.{table, field};
-ghost use Rattle.formula.specs.Bytes.{byteAt, ownByte, theOps, headRow, headAt};
+ghost use Rattle.formula.specs.Bytes.{byteAt, ownByte, theOps, headRow, headAt, seenAt, refusedHere, nameAt};
 use super::Cause;
 use super::Head;
 use super::Ops;
 use super::Refusal;
+use super::Seen;
+use super::Walk;
 use super::table::binds_of;
 use super::table::count_bad;
 use super::table::count_of;
 use super::table::field_of;
+use super::table::ident_type;
 use super::table::index_bad;
 use super::table::row_at;
 use super::table::type_by;
@@ -143,4 +147,55 @@ pub fn read_head(
         x,
         own_byte(s, at + 1, x),
     )
+}
+
+// Looks at the node at `at`.
+pub fn look(s: &[u8], rows: &[u64; 51], types: &[u8], at: usize) -> Seen
+    requires { ⌜ now rows ≡ table ⌝ }
+    requires { ⌜ at < 2 ^ 63 ⌝ }
+    ensures { λ r. ⌜ r ≡ seenAt (now (s .entry)) (now (types .entry)) at ⌝ }
+{
+    let x = row_at(rows, byte_at(s, at));
+    let n = own_byte(s, at + 1, x);
+    Seen {
+        row: x,
+        byte: n,
+        ty: type_by(x, types, n),
+    }
+}
+
+// Whether the next operand is refused where a level is left; t identifiers.
+pub fn is_refused(t: usize, end: usize, w: Walk, o: Seen) -> bool
+    requires { ⌜ w .at < 2 ^ 63 ⌝ }
+    ensures { λ r. ⌜ r ≡ refusedHere t end (w .d) (w .want) (w .at) (o .row) (o .byte) ⌝ }
+{
+    if end <= w.at + field_of(o.row, 0) {
+        return true;
+    }
+    let kinds = w.want & field_of(o.row, 56);
+    if kinds == 0 {
+        return true;
+    }
+    if count_bad(o.row, o.byte) {
+        return true;
+    }
+    index_bad(o.row, o.byte, t, w.d)
+}
+
+// The kind of the identifier at `at`, where one stands that may stand here; else 0. Most operands are identifiers, and this
+// reads one without its row.
+pub fn name_at(s: &[u8], types: &[u8], end: usize, want: usize, at: usize) -> usize
+    requires { ⌜ end ≤ length (now s) ⌝ }
+    requires { ⌜ at < end ⌝ }
+    ensures { λ r. ⌜ r ≡ nameAt (now (s .entry)) (now (types .entry)) end want at ⌝ }
+{
+    if end <= at + 1 {
+        return 0;
+    }
+    if s[at] != 32 {
+        return 0;
+    }
+    let ty = ident_type(types, wide(s[at + 1]));
+    let fit = want & ty;
+    if fit == 0 { 0 } else { ty }
 }

@@ -1,20 +1,27 @@
-// The reader: a list of operands at a time, the level falling.
+// The reader: a list of operands at a time, the levels left falling.
 ghost use mathlib.Core.Path.{_≡_};
+ghost use lib.ListN.{length};
 ghost use Prim.Native.Nat.{ℕ, _+_, _*_, _^_, _<_, _≤_};
 ghost use Rattle.formula.specs.Columns.{table};
-ghost use Rattle.formula.specs.Bytes.{badAfter, nextWant, unlike, readList, readBelow, endOf, readWhole};
+ghost use Rattle.formula.specs.Bytes.{nextWant, unlike, headAt, endOf, Going, judged, firstMark, nextOperand, operandsOf, keeping, refusalOf, readFrom, Stood, Turn, wholeAt, readWhole};
 ghost use Rattle.formula.specs.Formula.{readFormula};
 use super::Answer;
 use super::Cause;
 use super::Got;
 use super::Head;
-use super::Ops;
 use super::Reading;
 use super::Refusal;
+use super::Seen;
 use super::Sort;
+use super::Walk;
+use super::node::is_refused;
+use super::node::look;
+use super::node::name_at;
 use super::node::read_head;
 use super::shape::same_shape;
 use super::table::TABLE;
+use super::table::binds_of;
+use super::table::count_of;
 use super::table::field_of;
 use super::table::root_row;
 use super::table::wide;
@@ -53,130 +60,173 @@ fn is_unlike(
     if e.same { false } else { true }
 }
 
-// The mark of the first wrong node, after one more operand, at p, that had the mark `below`.
-fn bad_after(
-    s: &[u8],
-    rows: &[u64; 51],
-    types: &[u8],
-    others: usize,
-    want: usize,
-    left: usize,
-    p: usize,
-    parent: usize,
-    ty: usize,
-    bad: usize,
-    below: usize,
-) -> usize
+// The mark of the first wrong node so far, the next operand, of the type ty, judged.
+fn judge(s: &[u8], rows: &[u64; 51], types: &[u8], w: Walk, ty: usize) -> usize
     requires { ⌜ now rows ≡ table ⌝ }
-    ensures { λ r. ⌜ r ≡ badAfter (now (s .entry)) (now (types .entry)) others want left p parent ty bad below ⌝ }
+    ensures { λ r. ⌜ r ≡ judged (now (s .entry)) (now (types .entry)) w ty ⌝ }
 {
-    let fit = want & ty;
+    let fit = w.want & ty;
     if fit == 0 {
-        return parent;
+        return w.parent;
     }
-    if is_unlike(s, rows, types, others, left, ty, parent, p) {
-        return parent;
+    if is_unlike(s, rows, types, w.others, w.left, ty, w.parent, w.at) {
+        return w.parent;
     }
-    if bad == 0 { below } else { bad }
+    w.bad
 }
 
-// Reads n operands from `at` on, of a node with the row and the mark of their parent.
-fn read_ops(
-    s: &[u8],
-    rows: &[u64; 51],
-    types: &[u8],
-    end: usize,
-    at: usize,
-    n: usize,
-    row: u64,
-    parent: usize,
-    d: usize,
-    level: usize,
-) -> Answer
-    requires { ⌜ now rows ≡ table ⌝ }
-    requires { ⌜ d + 256 * level ≤ 8192 ⌝ }
-    ensures { λ r. ⌜ r ≡ readList level (now (s .entry)) (now (types .entry)) end d row parent n at ⌝ }
+// The first of two marks.
+fn first_mark(a: usize, b: usize) -> usize
+    ensures { λ r. ⌜ r ≡ firstMark a b ⌝ }
 {
-    let others = field_of(row, 40);
-    let mut want = field_of(row, 32);
-    let mut left = n;
-    let mut p = at;
-    let mut bad = 0usize;
-    while left != 0 {
-        let h = read_head(s, rows, types, end, d, level, want, p);
-        match h {
-            Head::Refused(r) => {
-                return Answer::Refused(r);
-            }
-            Head::Node(o) => {
-                let a = read_below(s, rows, types, end, o, d, level - 1);
-                match a {
-                    Answer::Refused(r) => {
-                        return Answer::Refused(r);
-                    }
-                    Answer::Read(g) => {
-                        bad = bad_after(
-                            s,
-                            rows,
-                            types,
-                            others,
-                            want,
-                            left,
-                            p,
-                            parent,
-                            o.ty,
-                            bad,
-                            g.bad,
-                        );
-                        want = next_want(others, o.ty);
-                        p = g.next;
-                    }
-                }
-            }
-        }
-        left -= 1;
-    }
-    Answer::Read(Got { next: p, bad: bad })
+    if a == 0 { b } else { a }
 }
 
-// Reads the operands of a node whose own bytes are read.
-fn read_below(
-    s: &[u8],
-    rows: &[u64; 51],
-    types: &[u8],
-    end: usize,
-    o: Ops,
-    d: usize,
-    level: usize,
-) -> Answer
-    requires { ⌜ now rows ≡ table ⌝ }
-    requires { ⌜ d + 256 * level + 256 ≤ 8192 ⌝ }
-    ensures { λ r. ⌜ r ≡ readBelow (readList level (now (s .entry)) (now (types .entry)) end) d o ⌝ }
+// After the next operand, of the type ty: the one at `next`.
+fn next_operand(w: Walk, ty: usize, next: usize, bad: usize) -> Walk
+    requires { ⌜ 0 < w .left ⌝ }
+    ensures { λ r. ⌜ r ≡ nextOperand w ty next bad ⌝ }
 {
-    if o.count == 0 {
-        return Answer::Read(Got {
+    Walk {
+        at: next,
+        left: w.left - 1,
+        want: next_want(w.others, ty),
+        others: w.others,
+        parent: w.parent,
+        d: w.d,
+        level: w.level,
+        bad: bad,
+        kept: w.kept,
+    }
+}
+
+// The operands of the next operand, which has the row x and the byte n after its code.
+fn operands_of(w: Walk, x: u64, n: u8, kept: usize) -> Walk
+    requires { ⌜ Going w ⌝ }
+    requires { ⌜ w .at < 2 ^ 63 ⌝ }
+    ensures { λ r. ⌜ r ≡ operandsOf w x n kept ⌝ }
+    ensures { λ r. ⌜ r .left < 256 ⌝ }
+    ensures { λ r. ⌜ r .d ≤ w .d + 255 ⌝ }
+{
+    let b = binds_of(x, n);
+    Walk {
+        at: w.at + field_of(x, 0) + 1,
+        left: count_of(x, n),
+        want: field_of(x, 32),
+        others: field_of(x, 40),
+        parent: w.at + 1,
+        d: w.d + wide(b),
+        level: w.level - 1,
+        bad: 0,
+        kept: kept,
+    }
+}
+
+// The same, of an operand that stands and is judged.
+fn below(s: &[u8], rows: &[u64; 51], types: &[u8], end: usize, w: Walk, o: Seen) -> Walk
+    requires { ⌜ now rows ≡ table ⌝ }
+    requires { ⌜ Stood (now s) (now types) end w o ⌝ }
+    ensures { λ r. ⌜ Turn (now (s .entry)) (now (types .entry)) end w (o .ty) r ⌝ }
+{
+    let kept = judge(s, rows, types, w, o.ty);
+    operands_of(w, o.row, o.byte, kept)
+}
+
+// The same operands, a mark found before them kept.
+fn keeping(kept: usize, w: Walk) -> Walk
+    ensures { λ r. ⌜ r ≡ keeping kept w ⌝ }
+{
+    Walk {
+        at: w.at,
+        left: w.left,
+        want: w.want,
+        others: w.others,
+        parent: w.parent,
+        d: w.d,
+        level: w.level,
+        bad: w.bad,
+        kept: first_mark(kept, w.kept),
+    }
+}
+
+// The refusal of the next operand; it is asked of one that is refused.
+fn refused(s: &[u8], rows: &[u64; 51], types: &[u8], end: usize, w: Walk) -> Answer
+    requires { ⌜ now rows ≡ table ⌝ }
+    ensures { λ r. ⌜ r ≡ refusalOf (headAt (now (s .entry)) (now (types .entry)) end (w .d) (w .level) (w .want) (w .at)) ⌝ }
+{
+    let h = read_head(s, rows, types, end, w.d, w.level, w.want, w.at);
+    match h {
+        Head::Refused(r) => Answer::Refused(r),
+        Head::Node(o) => Answer::Read(Got {
             next: o.next,
             bad: 0,
-        });
+        }),
     }
-    let b = o.binds;
-    read_ops(
-        s,
-        rows,
-        types,
-        end,
-        o.next,
-        o.count,
-        o.row,
-        o.mark,
-        d + wide(b),
-        level,
-    )
+}
+
+// Reads the operands that are left. The operands of the last one are read in the same loop, those of another by a call.
+fn read_ops(s: &[u8], rows: &[u64; 51], types: &[u8], end: usize, from: Walk) -> Answer
+    requires { ⌜ now rows ≡ table ⌝ }
+    requires { ⌜ end ≤ length (now s) ⌝ }
+    requires { ⌜ Going from ⌝ }
+    ensures { λ r. ⌜ r ≡ readFrom (now (s .entry)) (now (types .entry)) end from ⌝ }
+{
+    let mut w = from;
+    while w.left != 0 {
+        if end <= w.at {
+            return refused(s, rows, types, end, w);
+        }
+        let name = name_at(s, types, end, w.want, w.at);
+        if name != 0 {
+            w = next_operand(w, name, w.at + 2, w.bad);
+            continue;
+        }
+        let o = look(s, rows, types, w.at);
+        if is_refused(types.len(), end, w, o) {
+            return refused(s, rows, types, end, w);
+        }
+        let v = below(s, rows, types, end, w, o);
+        if v.left == 0 {
+            w = next_operand(w, o.ty, v.at, v.kept);
+            continue;
+        }
+        if v.level == 0 {
+            return refused(s, rows, types, end, v);
+        }
+        if w.left == 1 {
+            w = keeping(w.kept, v);
+            continue;
+        }
+        let a = read_below(s, rows, types, end, v);
+        match a {
+            Answer::Refused(r) => {
+                return Answer::Refused(r);
+            }
+            Answer::Read(g) => {
+                w = next_operand(w, o.ty, g.next, g.bad);
+            }
+        }
+    }
+    Answer::Read(Got {
+        next: w.at,
+        bad: first_mark(w.kept, w.bad),
+    })
+}
+
+// A call of its own, so that the loop of the caller keeps the slices in registers.
+fn read_below(s: &[u8], rows: &[u64; 51], types: &[u8], end: usize, w: Walk) -> Answer
+    requires { ⌜ now rows ≡ table ⌝ }
+    requires { ⌜ end ≤ length (now s) ⌝ }
+    requires { ⌜ Going w ⌝ }
+    ensures { λ r. ⌜ r ≡ readFrom (now (s .entry)) (now (types .entry)) end w ⌝ }
+{
+    read_ops(s, rows, types, end, w)
 }
 
 // The formula's bytes are before this.
 fn end_of(len: usize, start: usize) -> usize
     ensures { λ r. ⌜ r ≡ endOf len start ⌝ }
+    ensures { λ r. ⌜ r ≤ len ⌝ }
 {
     if start < len {
         if 1024 < len - start {
@@ -186,13 +236,31 @@ fn end_of(len: usize, start: usize) -> usize
     len
 }
 
+// A whole formula as one operand, of a parent that it always suits.
+fn whole(sort: Sort, start: usize) -> Walk
+    ensures { λ r. ⌜ r ≡ wholeAt sort start ⌝ }
+    ensures { λ r. ⌜ Going r ⌝ }
+{
+    let root = root_row(sort);
+    Walk {
+        at: start,
+        left: 1,
+        want: field_of(root, 32),
+        others: field_of(root, 40),
+        parent: 1,
+        d: 0,
+        level: 32,
+        bad: 0,
+        kept: 0,
+    }
+}
+
 fn read_whole(s: &[u8], rows: &[u64; 51], types: &[u8], sort: Sort, start: usize) -> Reading
     requires { ⌜ now rows ≡ table ⌝ }
     ensures { λ r. ⌜ r ≡ readWhole (now (s .entry)) (now (types .entry)) sort start ⌝ }
 {
     let end = end_of(s.len(), start);
-    let root = root_row(sort);
-    let a = read_ops(s, rows, types, end, start, 1, root, 0, 0, 32);
+    let a = read_ops(s, rows, types, end, whole(sort, start));
     match a {
         Answer::Refused(r) => Reading::Refused(r),
         Answer::Read(g) => {

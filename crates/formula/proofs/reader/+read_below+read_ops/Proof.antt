@@ -1,11 +1,6 @@
-use mathlib.Core.Path.{_≡_}
-use Prim.Native.Nat.{_+_, _*_, _≤_}
-use Rattle.formula.specs.Bytes.{headAt, belowAt, listWith, readList}
-use Rattle.formula.proofs.ReaderLaws.{lists, head-level, list-goes, list-starts}
-use native.Mathlib.Nat.{pos-of-ne-zero}
-use Rattle.formula.specs.Columns.{table}
+use Prim.Native.Nat.{ℕ, _+_, _*_, _<_}
 use borrow.Author.Needs.{needs}
-use Prim.Native.Nat.{ℕ, _<_}
+use Rattle.formula.proofs.WalkLaws.{OnWay, turns}
 use borrow.Fn.Kinds.{In}
 use borrow.Fn.PlainCycle.{Measures, is, falls, and}
 use Rattle.formula.proofs.reader.read_below.Reads as read-below
@@ -14,19 +9,22 @@ use Rattle.formula.proofs.reader.+read_below+read_ops.Lts-read_below as
 use Rattle.formula.proofs.reader.read_ops.Reads as read-ops
 use Rattle.formula.proofs.reader.read_ops.Kinds as read-ops-kinds
 use Rattle.formula.proofs.reader.+read_below+read_ops.Lts-read_ops as read-ops-lts
-use Rattle.formula.proofs.reader.bad_after.Reads as bad-after-reads
-use Rattle.formula.proofs.table.field_of.Reads as field-of-reads
-use Rattle.formula.proofs.reader.next_want.Reads as next-want-reads
-use Rattle.formula.proofs.node.read_head.Reads as read-head-reads
-use Rattle.formula.proofs.table.wide.Reads as wide-reads
+use Rattle.formula.proofs.node.is_refused.Reads as is-refused-reads
+use Rattle.formula.proofs.node.look.Reads as look-reads
+use Rattle.formula.proofs.node.name_at.Reads as name-at-reads
+use Rattle.formula.proofs.reader.below.Reads as below-reads
+use Rattle.formula.proofs.reader.first_mark.Reads as first-mark-reads
+use Rattle.formula.proofs.reader.keeping.Reads as keeping-reads
+use Rattle.formula.proofs.reader.next_operand.Reads as next-operand-reads
+use Rattle.formula.proofs.reader.refused.Reads as refused-reads
 use Rattle.formula.proofs.reader.+read_below+read_ops.{statement}
 use Rattle.formula.proofs.reader.+read_below+read_ops.Tie.{close}
 
 abbrev μ-read-below : Measures 3 read-below-kinds.ps ℕ
-μ-read-below κs a = a .1 .1 .1 .1 .1 .1 .0 * 2 + 2
+μ-read-below κs a = a .1 .1 .1 .1 .0 .level * 2 + 2
 
 abbrev μ-read-ops : Measures 3 read-ops-kinds.ps ℕ
-μ-read-ops κs a = a .1 .1 .1 .1 .1 .1 .1 .1 .1 .0 * 2 + 1
+μ-read-ops κs a = a .1 .1 .1 .1 .0 .level * 2 + 1
 
 abbrev read-below-at : ℕ → In 3 read-below-kinds.ps
 read-below-at t =
@@ -44,58 +42,67 @@ read-ops-below t =
     and 3 read-ops-kinds.ps (falls 3 read-ops-kinds.ps _<_ μ-read-ops t) read-ops.Pre
 
 abbrev read-ops-Inv-loop : read-ops-lts.InvT-loop
-read-ops-Inv-loop s rows types end at n row parent d level others want₀ left₀ p₀ bad₀ want left p bad =
-    (rows ≡ table) × (listWith (headAt s types end d level) (belowAt level s types end d) s types others parent left want p bad ≡ readList level s types end d row parent n at)
+read-ops-Inv-loop s rows types end w₀ w = OnWay s rows types end w₀ w
 
 abbrev read-ops-μ-loop : read-ops-lts.MeasureT-loop
-read-ops-μ-loop s rows types end at n row parent d level others want₀ left₀ p₀ bad₀ want left p bad =
-    left
+read-ops-μ-loop s rows types end w₀ w = w .level * 256 + w .left
 
 pub +read-below+read-ops-spec : {M : Type 1} → statement M
 +read-below+read-ops-spec = close μ-read-below μ-read-ops (λ t. read-below-lts.spec (
-  wide-reads.Asked,
-  wide-reads.Learnt,
   read-ops-below t,
   read-ops.Post,
-)
-    (read-below-at t)
-    read-below.Post
-    (λ c. search (needs, lists) depth 7)
-    (λ c κs. search (needs, lists) depth 7)
-    (λ c. search (needs, lists) depth 7)
-    (λ c κs. search (needs, lists) depth 7)
-    (λ c. search (needs, lists) depth 7))
+) (read-below-at t) read-below.Post (λ c κs. search (needs, turns) depth 7) (λ c. search (needs, turns) depth 7))
     λ t. read-ops-lts.spec (
-      field-of-reads.Asked,
-      field-of-reads.Learnt,
-      read-head-reads.Asked,
-      read-head-reads.Learnt,
+      refused-reads.Asked,
+      refused-reads.Learnt,
+      name-at-reads.Asked,
+      name-at-reads.Learnt,
+      next-operand-reads.Asked,
+      next-operand-reads.Learnt,
+      look-reads.Asked,
+      look-reads.Learnt,
+      is-refused-reads.Asked,
+      is-refused-reads.Learnt,
+      below-reads.Asked,
+      below-reads.Learnt,
+      keeping-reads.Asked,
+      keeping-reads.Learnt,
       read-below-below t,
       read-below.Post,
-      bad-after-reads.Asked,
-      bad-after-reads.Learnt,
-      next-want-reads.Asked,
-      next-want-reads.Learnt,
+      first-mark-reads.Asked,
+      first-mark-reads.Learnt,
     )
     (read-ops-at t)
     read-ops.Post
     read-ops-Inv-loop
     read-ops-μ-loop
-    (λ c κs. search (needs, lists) depth 7)
-    (λ c κs. search (needs, lists) depth 7)
-    (λ c. search (needs, lists) depth 7)
-    (λ c κs. search (needs, lists) depth 7)
-    (λ c. search (needs, lists) depth 7)
-    (λ c. search (needs, lists) depth 7)
-    (λ c. search (needs, lists) depth 7)
-    (λ c. pos-of-ne-zero (search (needs, head-level) depth 7))
-    (λ c κs. search (needs, lists) depth 7)
-    (λ c. search (needs, lists) depth 7)
-    (λ c. search (needs, lists) depth 7)
-    (λ c. search (needs, lists) depth 7)
-    (λ c κs. search (needs, lists) depth 7)
-    (λ c κs. search (needs, lists) depth 7)
-    (λ c. search (needs, lists) depth 7)
-    (λ c. search (needs, lists) depth 7)
-    (λ c. search (needs, lists) depth 7)
-    (λ c. search (needs, lists) depth 7)
+    (λ c. search (needs, turns) depth 7)
+    (λ c κs. search (needs, turns) depth 7)
+    (λ c. search (needs, turns) depth 7)
+    (λ c κs. search (needs, turns) depth 7)
+    (λ c. search (needs, turns) depth 7)
+    (λ c κs. search (needs, turns) depth 7)
+    (λ c. search (needs, turns) depth 7)
+    (λ c. search (needs, turns) depth 7)
+    (λ c κs. search (needs, turns) depth 7)
+    (λ c κs. search (needs, turns) depth 7)
+    (λ c κs. search (needs, turns) depth 7)
+    (λ c. search (needs, turns) depth 7)
+    (λ c κs. search (needs, turns) depth 7)
+    (λ c κs. search (needs, turns) depth 7)
+    (λ c. search (needs, turns) depth 7)
+    (λ c. let i = c .before .before .before .before .before .before .before .before .before .before .before .before .before .loop .inv in search (needs, turns) depth 7)
+    (λ c κs. let i = c .before .before .before .before .before .before .before .before .before .before .before .before .before .before .loop .inv in search (needs, turns) depth 7)
+    (λ c. let i = c .before .before .before .before .before .before .before .before .before .before .before .before .before .before .before .loop .inv in search (needs, turns) depth 7)
+    (λ c κs. search (needs, turns) depth 7)
+    (λ c. search (needs, turns) depth 7)
+    (λ c. let i = c .before .before .before .before .before .before .before .before .before .before .before .before .before .before .before .before .before .loop .inv in search (needs, turns) depth 7)
+    (λ c κs. let p = c .before .before .before .before .before .before .before .before .before .before .before .before .before .before .before .before .before .before .before .pre in let i = c .before .before .before .before .before .before .before .before .before .before .before .before .before .before .before .before .loop .inv in search (needs, turns) depth 7)
+    (λ c. search (needs, turns) depth 7)
+    (λ c. let i = c .before .before .before .before .before .before .before .before .before .before .before .before .before .before .before .before .before .before .before .before .loop .inv in search (needs, turns) depth 7)
+    (λ c. search (needs, turns) depth 7)
+    (λ c κs. search (needs, turns) depth 7)
+    (λ c. search (needs, turns) depth 7)
+    (λ c. let i = c .before .before .before .before .before .before .before .before .before .before .before .before .before .before .before .before .before .before .before .before .before .loop .inv in search (needs, turns) depth 7)
+    (λ c κs. search (needs, turns) depth 7)
+    (λ c. search (needs, turns) depth 7)
