@@ -9,6 +9,16 @@ pub enum Part {
     Bytes(Vec<u8>),
 }
 
+impl Part {
+    /// What was written, where this part is bytes.
+    pub fn bytes(&self) -> Option<&[u8]> {
+        match self {
+            Part::Bytes(bytes) => Some(bytes),
+            Part::Number(_) => None,
+        }
+    }
+}
+
 /// Document 01's number and byte place.
 #[derive(Clone, Copy, PartialEq, Eq, PartialOrd, Ord, Hash, Debug)]
 pub struct Refusal {

@@ -76,6 +76,7 @@ mod tests {
     use crate::explain::class::Class;
     use crate::explain::{Verdict, compared};
     use crate::request::{Request, answer_line};
+    use crate::run::tally::smallest_of_class;
 
     #[test]
     fn entries_are_found_under_their_headings() {
@@ -94,6 +95,20 @@ mod tests {
         for class in Class::ALL {
             let entry = entries(PAGE).into_iter().find(|entry| entry.name == class.name());
             assert!(entry.is_some_and(|entry| !entry.blocks.is_empty()), "{}", class.name());
+        }
+    }
+
+    /// The first block of each class is what the shrinker leaves of it.
+    #[test]
+    fn the_smallest_inputs_are_smallest() {
+        if given::missing().is_some() {
+            return;
+        }
+        for class in Class::ALL {
+            let entry = entries(PAGE).into_iter().find(|entry| entry.name == class.name()).expect("an entry");
+            let request = Request::parse(&entry.blocks[0].request).expect("a request");
+            let (small, _) = smallest_of_class(&request, class, Class::ALL.len());
+            assert_eq!(small.line(), request.line(), "{}", class.name());
         }
     }
 

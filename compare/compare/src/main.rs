@@ -23,8 +23,8 @@ compare laws [--seed N] [--count N]
 compare archive DIR [--seed N] [--count N]
         writes a folder of sequents that stands in for an archive
 compare drift DIR [--all] [--csv FILE] [--html FILE]
-        replays each *.sqt of a folder (genmp, read, and the acts in FILE.acts) and lists where the
-        proved library (or paper, where it is absent) and the given Rust part
+        replays each *.sqt of a folder and the folders in it (genmp, read, and the acts in FILE.acts)
+        and lists where the proved library (or paper, where it is absent) and the given Rust part
 compare bench
         times genmp and read by each program";
 
@@ -82,7 +82,7 @@ fn main() -> ExitCode {
         Ok(true) => ExitCode::SUCCESS,
         Ok(false) => ExitCode::from(1),
         Err(why) => {
-            eprintln!("compare: {why}\n{USAGE}");
+            eprintln!("compare: {why}; `compare` alone says what there is");
             ExitCode::from(2)
         }
     }

@@ -61,16 +61,12 @@ impl Request {
     pub fn exact(&self) -> Option<Request> {
         let ample = vec![AMPLE; self.rooms.len()];
         let parts = paper::run(&self.act, &self.lent(), &ample)?.ok()?;
-        let lengths = parts.iter().filter_map(|part| match part {
-            Part::Bytes(bytes) => Some(bytes.len()),
-            Part::Number(_) => None,
-        });
-        Some(self.with_rooms(lengths.collect()))
+        Some(self.with_rooms(parts.iter().filter_map(Part::bytes).map(<[u8]>::len).collect()))
     }
 
     /// Whether the first buffer is a sequent.
     pub fn has_sequent(&self) -> bool {
-        !matches!(self.act.as_str(), "onepoint" | "formula" | "expression")
+        !matches!(self.act.as_str(), "onepoint" | "formula" | "expression" | "equal")
     }
 }
 

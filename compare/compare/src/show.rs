@@ -9,7 +9,8 @@ pub fn formula(tree: &Tree) -> String {
     show(tree, 0)
 }
 
-fn show(tree: &Tree, declared: usize) -> String {
+/// A formula that stands below so many declared variables.
+pub fn show(tree: &Tree, declared: usize) -> String {
     let operand = |index: usize| enclosed(&tree.operands[index], declared);
     match tree.code {
         TRUTH => "⊤".to_string(),
@@ -79,7 +80,7 @@ fn sign(code: u8) -> &'static str {
     }
 }
 
-/// One line for each hypothesis, numbered, then the goal.
+/// One line for each hypothesis, with its position, then the goal.
 pub fn sequent(sequent: &Sequent) -> Vec<String> {
     let mut out = Vec::new();
     for (position, hypothesis) in sequent.hypotheses.iter().enumerate() {

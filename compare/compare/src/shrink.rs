@@ -1,6 +1,7 @@
 //! Finds a small request that still shows what a large one showed.
 
 use std::collections::HashMap;
+use std::rc::Rc;
 
 use paper::codes::*;
 use paper::sequent::Flag;
@@ -10,12 +11,25 @@ use paper::types::{Type, type_of};
 use crate::parts::{Lent, Parts};
 use crate::request::Request;
 
+/// How many bytes of candidates are tried in all: enough for every small request, and an end to large ones.
+const MOST_BYTES: usize = 20_000_000;
+
 /// The smallest request reached by single steps that each keep what `keeps` asks.
 pub fn shrink(request: &Request, keeps: &mut dyn FnMut(&Request) -> bool) -> Request {
+    shrink_within(MOST_BYTES, request, keeps)
+}
+
+fn shrink_within(mut left: usize, request: &Request, keeps: &mut dyn FnMut(&Request) -> bool) -> Request {
     let mut best = request.clone();
     loop {
-        let smaller = |candidate: &Request| measure(candidate) < measure(&best);
-        let next = candidates(&best).into_iter().filter(smaller).find(|candidate| keeps(candidate));
+        let least = measure(&best);
+        let next = candidates(&best)
+            .take_while(|candidate| {
+                left = left.saturating_sub(candidate.size());
+                left > 0
+            })
+            .filter(|candidate| candidate.size() <= least.0 && measure(candidate) < least)
+            .find(|candidate| keeps(candidate));
         match next {
             Some(next) => best = next,
             None => return best,
@@ -28,65 +42,89 @@ pub fn measure(request: &Request) -> (usize, String) {
     (request.size(), request.line())
 }
 
-fn candidates(request: &Request) -> Vec<Request> {
-    match Parts::of(request) {
-        Some(parts) => {
-            let mut out = fewer(&parts);
-            out.extend(fewer_identifiers(&parts));
-            out.extend(simpler(&parts));
-            out.extend(simpler_everywhere(&parts));
-            out.into_iter().map(|parts| parts.request(request)).collect()
+/// One after the other, because all those of a large request do not fit into memory.
+fn candidates(request: &Request) -> Box<dyn Iterator<Item = Request> + '_> {
+    let Some(parts) = Parts::of(request) else {
+        return Box::new(fewer_bytes(request).into_iter());
+    };
+    let edits = [fewer(&parts), fewer_identifiers(&parts)].concat();
+    let nodes = nodes(&parts);
+    let repeated = repeated(&parts);
+    let parts = Rc::new(parts);
+    let (here, everywhere) = (parts.clone(), parts.clone());
+    let all = edits
+        .into_iter()
+        .map(move |edit| edit.on(&parts))
+        .chain(nodes.into_iter().flat_map(move |node| simpler(here.clone(), node)))
+        .chain(repeated.into_iter().flat_map(move |tree| simpler_everywhere(everywhere.clone(), tree)));
+    Box::new(all.map(|parts| parts.request(request)))
+}
+
+/// A change that takes something away.
+#[derive(Clone, Copy)]
+enum Edit {
+    /// Without this hypothesis.
+    Hypothesis(usize),
+    /// Without this formula of this lent list.
+    Lent(usize, usize),
+    /// With the flag of this hypothesis plain.
+    Flag(usize),
+    /// Without this identifier, which occurs nowhere.
+    Identifier(usize),
+    /// With the second identifier, of the same type, in the place of the first.
+    Merged(usize, usize),
+}
+
+impl Edit {
+    fn on(self, parts: &Parts) -> Parts {
+        let mut changed = parts.clone();
+        match self {
+            Edit::Hypothesis(index) => drop(changed.hypotheses.remove(index)),
+            Edit::Lent(at, index) => {
+                if let Lent::List(formulas) = &mut changed.lent[at] {
+                    formulas.remove(index);
+                }
+            }
+            Edit::Flag(index) => changed.hypotheses[index].flag = Flag::Plain,
+            Edit::Identifier(k) => {
+                changed.types.remove(k);
+                renamed(&mut changed, &|other| if other > k as i64 { other - 1 } else { other });
+            }
+            Edit::Merged(k, earlier) => {
+                renamed(&mut changed, &|other| if other == k as i64 { earlier as i64 } else { other });
+            }
         }
-        None => fewer_bytes(request),
+        changed
     }
 }
 
 /// Without one hypothesis, one lent formula or one flag.
-fn fewer(parts: &Parts) -> Vec<Parts> {
-    let mut out = Vec::new();
-    let mut with = |change: &dyn Fn(&mut Parts)| {
-        let mut changed = parts.clone();
-        change(&mut changed);
-        out.push(changed);
-    };
-    for index in 0..parts.hypotheses.len() {
-        with(&|parts| drop(parts.hypotheses.remove(index)));
-    }
+fn fewer(parts: &Parts) -> Vec<Edit> {
+    let mut out: Vec<Edit> = (0..parts.hypotheses.len()).map(Edit::Hypothesis).collect();
     for (at, lent) in parts.lent.iter().enumerate() {
-        let Lent::List(formulas) = lent else { continue };
-        for index in 0..formulas.len() {
-            with(&|parts| {
-                if let Lent::List(formulas) = &mut parts.lent[at] {
-                    formulas.remove(index);
-                }
-            });
+        if let Lent::List(formulas) = lent {
+            out.extend((0..formulas.len()).map(|index| Edit::Lent(at, index)));
         }
     }
-    for index in 0..parts.hypotheses.len() {
-        with(&|parts| parts.hypotheses[index].flag = Flag::Plain);
-    }
+    out.extend((0..parts.hypotheses.len()).map(Edit::Flag));
     out
 }
 
 /// Without an identifier that occurs nowhere, or with one in the place of another of its type.
-fn fewer_identifiers(parts: &Parts) -> Vec<Parts> {
+fn fewer_identifiers(parts: &Parts) -> Vec<Edit> {
     let mut out = Vec::new();
     for k in 0..parts.types.len() {
         if !parts.formulas().iter().any(|formula| mentions(formula, k as i64)) {
-            let mut changed = parts.clone();
-            changed.types.remove(k);
-            let lower = |other: i64| if other > k as i64 { other - 1 } else { other };
-            changed.formulas_mut().into_iter().for_each(|formula| rename(formula, &lower));
-            out.push(changed);
+            out.push(Edit::Identifier(k));
         }
-        for earlier in (0..k).filter(|earlier| parts.types[*earlier] == parts.types[k]) {
-            let mut changed = parts.clone();
-            let merged = |other: i64| if other == k as i64 { earlier as i64 } else { other };
-            changed.formulas_mut().into_iter().for_each(|formula| rename(formula, &merged));
-            out.push(changed);
-        }
+        let alike = (0..k).filter(|earlier| parts.types[*earlier] == parts.types[k]);
+        out.extend(alike.map(|earlier| Edit::Merged(k, earlier)));
     }
     out
+}
+
+fn renamed(parts: &mut Parts, to: &impl Fn(i64) -> i64) {
+    parts.formulas_mut().into_iter().for_each(|formula| rename(formula, to));
 }
 
 fn mentions(tree: &Tree, k: i64) -> bool {
@@ -100,36 +138,66 @@ fn rename(tree: &mut Tree, to: &impl Fn(i64) -> i64) {
     tree.operands.iter_mut().for_each(|operand| rename(operand, to));
 }
 
-/// With one subformula replaced by a smaller one.
-fn simpler(parts: &Parts) -> Vec<Parts> {
-    let mut out = Vec::new();
-    for (index, formula) in parts.formulas().into_iter().enumerate() {
-        for smaller in smaller_trees(formula, &parts.types) {
-            let mut changed = parts.clone();
-            *changed.formulas_mut()[index] = smaller;
-            out.push(changed);
-        }
+/// The place of a node: its formula, and how many nodes stand before it there.
+type Place = (usize, usize);
+
+fn nodes(parts: &Parts) -> Vec<Place> {
+    let formulas = parts.formulas();
+    let of =
+        |(index, formula): (usize, &&Tree)| (0..size_in_nodes(formula)).map(move |before| (index, before));
+    formulas.iter().enumerate().flat_map(of).collect()
+}
+
+fn size_in_nodes(tree: &Tree) -> usize {
+    1 + tree.operands.iter().map(size_in_nodes).sum::<usize>()
+}
+
+/// The node before which so many stand.
+fn node_at(tree: &mut Tree, mut before: usize) -> &mut Tree {
+    if before == 0 {
+        return tree;
     }
-    out
+    before -= 1;
+    for operand in &mut tree.operands {
+        let nodes = size_in_nodes(operand);
+        if before < nodes {
+            return node_at(operand, before);
+        }
+        before -= nodes;
+    }
+    unreachable!("a formula has its nodes")
+}
+
+/// With one subformula replaced by a smaller one.
+fn simpler(parts: Rc<Parts>, (formula, before): Place) -> impl Iterator<Item = Parts> {
+    let mut whole = parts.formulas()[formula].clone();
+    let smaller = smaller_at_root(node_at(&mut whole, before), &parts.types);
+    smaller.into_iter().map(move |smaller| {
+        let mut changed = (*parts).clone();
+        *node_at(changed.formulas_mut().swap_remove(formula), before) = smaller;
+        changed
+    })
+}
+
+/// The subformulas that stand at several places.
+fn repeated(parts: &Parts) -> Vec<Tree> {
+    let mut met: HashMap<&Tree, usize> = HashMap::new();
+    parts.formulas().into_iter().for_each(|formula| count(formula, &mut met));
+    let mut repeated: Vec<Tree> =
+        met.iter().filter(|(_, times)| **times > 1).map(|(tree, _)| (*tree).clone()).collect();
+    // In an order of their own, so that the outcome is the same each time.
+    repeated.sort_by_cached_key(|tree| tree.bytes());
+    repeated
 }
 
 /// With every occurrence of one repeated subformula replaced by the same smaller one.
-fn simpler_everywhere(parts: &Parts) -> Vec<Parts> {
-    let mut met: HashMap<&Tree, usize> = HashMap::new();
-    parts.formulas().into_iter().for_each(|formula| count(formula, &mut met));
-    let mut repeated: Vec<&Tree> =
-        met.iter().filter(|(_, times)| **times > 1).map(|(tree, _)| *tree).collect();
-    // In an order of their own, so that the outcome is the same each time.
-    repeated.sort_by_cached_key(|tree| tree.bytes());
-    let mut out = Vec::new();
-    for tree in repeated {
-        for smaller in smaller_at_root(tree, &parts.types) {
-            let mut changed = parts.clone();
-            changed.formulas_mut().into_iter().for_each(|formula| replace(formula, tree, &smaller));
-            out.push(changed);
-        }
-    }
-    out
+fn simpler_everywhere(parts: Rc<Parts>, tree: Tree) -> impl Iterator<Item = Parts> {
+    let smaller = smaller_at_root(&tree, &parts.types);
+    smaller.into_iter().map(move |smaller| {
+        let mut changed = (*parts).clone();
+        changed.formulas_mut().into_iter().for_each(|formula| replace(formula, &tree, &smaller));
+        changed
+    })
 }
 
 fn count<'a>(tree: &'a Tree, met: &mut HashMap<&'a Tree, usize>) {
@@ -143,19 +211,6 @@ fn replace(tree: &mut Tree, old: &Tree, new: &Tree) {
     } else {
         tree.operands.iter_mut().for_each(|operand| replace(operand, old, new));
     }
-}
-
-/// The trees that differ from this one at one node, simpler there.
-pub fn smaller_trees(tree: &Tree, types: &[u8]) -> Vec<Tree> {
-    let mut out = smaller_at_root(tree, types);
-    for (index, operand) in tree.operands.iter().enumerate() {
-        for smaller in smaller_trees(operand, types) {
-            let mut operands = tree.operands.clone();
-            operands[index] = smaller;
-            out.push(tree.with_operands(operands));
-        }
-    }
-    out
 }
 
 /// A leaf, an operand in the node's place, or the node without one of its counted operands.
@@ -274,12 +329,28 @@ mod tests {
     }
 
     #[test]
-    fn each_smaller_tree_differs_at_one_node() {
+    fn each_candidate_differs_at_one_node() {
         let x = identifier(0);
         let tree = not(&node(AND, vec![two(LESS, &x, &literal(3)), truth(true), truth(false)]));
-        let smaller = smaller_trees(&tree, &[0]);
-        assert!(smaller.contains(&not(&node(AND, vec![truth(true), truth(false)]))));
-        assert!(smaller.contains(&node(AND, tree.operands[0].operands.clone())));
-        assert!(smaller.iter().all(|other| *other != tree && other.size() <= tree.size()));
+        let request = Request::ample("onepoint", vec![vec![0], tree.bytes()]);
+        let made: Vec<Tree> = candidates(&request)
+            .filter_map(|candidate| crate::loose::predicate(&candidate.buffers[1]))
+            .collect();
+        assert!(made.contains(&not(&node(AND, vec![truth(true), truth(false)]))));
+        assert!(made.contains(&node(AND, tree.operands[0].operands.clone())));
+        assert!(made.iter().all(|other| *other != tree && other.size() <= tree.size()));
+    }
+
+    /// Where nothing can go, a full file is given up after a while.
+    #[test]
+    fn a_full_file_comes_to_an_end() {
+        let request = Request::ample("read", vec![crate::edges::full_file(60_000)]);
+        let mut tries = 0;
+        let mut keeps = |smaller: &Request| {
+            tries += 1;
+            smaller.size() >= 60_000
+        };
+        assert_eq!(shrink_within(1_000_000, &request, &mut keeps), request);
+        assert!(tries > 0 && tries < 20, "{tries}");
     }
 }

@@ -15,6 +15,16 @@ pub struct Inferred {
 
 /// Refusals 15, 16, 17, then 14 for a result over a formula's limits.
 pub fn infer(predicate: &Tree) -> Result<Inferred, Refusal> {
+    let (find, body) = instantiated(predicate)?;
+    let result = close(predicate, &find, body)?;
+    if !within_limits(&result) {
+        return refuse(14, 0);
+    }
+    Ok(Inferred { result, replacement: find.replacement })
+}
+
+/// The find, and the body that it leaves with its variable gone.
+pub fn instantiated(predicate: &Tree) -> Result<(Find, Tree), Refusal> {
     if !predicate.is_quantifier() {
         return refuse(15, 0);
     }
@@ -26,17 +36,13 @@ pub fn infer(predicate: &Tree) -> Result<Inferred, Refusal> {
     };
     let remaining = left.unwrap_or_else(|| truth(polarity));
     let body = put_in(&remaining, 0, &find);
-    let result = close(predicate, &find, body)?;
-    if !within_limits(&result) {
-        return refuse(14, 0);
-    }
-    Ok(Inferred { result, replacement: find.replacement })
+    Ok((find, body))
 }
 
 /// Variable `index` of the body must equal the replacement.
-struct Find {
-    index: i64,
-    replacement: Tree,
+pub struct Find {
+    pub index: i64,
+    pub replacement: Tree,
 }
 
 /// The scan for the first fitting equality.
@@ -176,7 +182,7 @@ fn put_in(tree: &Tree, depth: i64, find: &Find) -> Tree {
 }
 
 /// The body under the variables that stay; only where the innermost one went may two blocks join.
-fn close(predicate: &Tree, find: &Find, body: Tree) -> Result<Tree, Refusal> {
+pub fn close(predicate: &Tree, find: &Find, body: Tree) -> Result<Tree, Refusal> {
     let stay = predicate.declares() - 1;
     if stay == 0 {
         return Ok(body);

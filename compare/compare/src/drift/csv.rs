@@ -1,25 +1,30 @@
 //! The drift list as comma-separated values.
 
-use super::{Drift, first_program};
+use super::{Drift, Unread};
 use crate::request::answer_line;
 
-/// A heading line, then one line for each obligation.
+/// A heading line, then one line for each obligation and for each file or line that was not readable.
 pub fn write(drift: &Drift) -> String {
     let mut out = "file,act,request,first program,first answer,given answer,difference\n".to_string();
     for obligation in &drift.obligations {
-        let fields = [
-            obligation.file.clone(),
-            obligation.request.act.clone(),
-            obligation.request.line(),
-            first_program(&obligation.request).name().to_string(),
-            answer_line(&obligation.first),
-            answer_line(&obligation.second),
-            obligation.outcome.words(),
-        ];
-        out.push_str(&fields.map(|field| quoted(&field)).join(","));
-        out.push('\n');
+        out.push_str(&line([
+            &obligation.file,
+            &obligation.request.act,
+            &obligation.request.line(),
+            obligation.by.name(),
+            &answer_line(&obligation.first),
+            &answer_line(&obligation.second),
+            &obligation.outcome.words(),
+        ]));
+    }
+    for Unread { file, why } in &drift.unread {
+        out.push_str(&line([file, "", "", "", "", "", &format!("not readable: {why}")]));
     }
     out
+}
+
+fn line(fields: [&str; 7]) -> String {
+    format!("{}\n", fields.map(quoted).join(","))
 }
 
 /// In quotes where a comma, a quote or a line's end would be misread.
@@ -32,11 +37,11 @@ fn quoted(field: &str) -> String {
 
 #[cfg(test)]
 mod tests {
-    use super::quoted;
+    use super::*;
 
     #[test]
     fn fields_are_quoted_where_needed() {
-        assert_eq!(quoted("plain"), "plain");
-        assert_eq!(quoted("a,\"b\""), "\"a,\"\"b\"\"\"");
+        let fields = ["plain", "a,\"b\"", "two\nlines", "", "", "", "end\r"];
+        assert_eq!(line(fields), "plain,\"a,\"\"b\"\"\",\"two\nlines\",,,,\"end\r\"\n");
     }
 }

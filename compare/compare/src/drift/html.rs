@@ -1,136 +1,141 @@
-//! The drift list as one page that stands alone.
+//! The drift list as one page that stands alone: no script, and nothing from outside.
 
 use std::collections::BTreeMap;
 
-use answers::{Answer, Part};
+use answers::Answer;
 
-use super::{Drift, Obligation, Outcome, first_program};
+use super::{Drift, Obligation, Outcome, Unread, told};
 use crate::listed;
-use crate::loose;
 use crate::request::answer_line;
-use crate::show;
 
 const STYLE: &str = "\
 body{font:15px/1.45 system-ui,sans-serif;margin:2rem auto;max-width:72rem;padding:0 1rem;color:#1c1e21}\
-h1{font-size:1.5rem}h2{font-size:1.15rem;margin-top:2rem}\
+h1{font-size:1.5rem}h2{font-size:1.15rem;margin-top:2.5rem}h3{font-size:1rem;margin:0 0 .4rem;overflow-wrap:anywhere}\
+h4{font-size:.85rem;margin:0;color:#555c66}\
 table{border-collapse:collapse;width:100%}th,td{border:1px solid #c9ced6;padding:.35rem .5rem;vertical-align:top;\
 text-align:left}th{background:#eef1f5}pre,code{font:13px/1.4 ui-monospace,monospace;white-space:pre-wrap;\
-overflow-wrap:anywhere;margin:0}.bad{background:#fde4e1}summary{cursor:pointer}.num{text-align:right}";
+overflow-wrap:anywhere;margin:0}article{border:1px solid #c9ced6;border-radius:4px;padding:.6rem;margin:.6rem 0}\
+.sides{display:grid;grid-template-columns:repeat(auto-fit,minmax(min(100%,20rem),1fr));gap:.6rem}\
+.bad{background:#fde4e1}summary{cursor:pointer}.num{text-align:right}";
+
+/// Obligations of one outcome, under its words.
+type Group<'a> = (&'a Outcome, Vec<&'a Obligation>);
 
 /// The whole page.
 pub fn write(drift: &Drift) -> String {
+    let groups = groups(drift);
     let mut out = String::from("<!DOCTYPE html>\n<html lang=\"en\">\n<meta charset=\"utf-8\">\n");
     out.push_str("<meta name=\"viewport\" content=\"width=device-width, initial-scale=1\">\n");
     out.push_str(&format!(
         "<title>Drift</title>\n<style>{STYLE}</style>\n<h1>Drift of a replayed archive</h1>\n"
     ));
-    out.push_str(&format!("<p>{}</p>\n", escaped(&drift.last_line())));
-    out.push_str(&summary(drift));
-    out.push_str("<h2>Obligations that drift</h2>\n");
-    out.push_str("<table>\n<tr><th>obligation<th>difference<th>before<th>first program<th>given Rust\n");
-    for obligation in drift.obligations.iter().filter(|obligation| obligation.outcome != Outcome::Same) {
-        out.push_str(&row(obligation));
+    let counts = format!("<p>{}</p>\n", escaped(&drift.last_line()));
+    out.push_str(&counts);
+    out.push_str(&differences_met(&groups));
+    for (number, group) in groups.iter().enumerate() {
+        out.push_str(&section(number, group));
     }
-    out.push_str("</table>\n");
-    for (file, line) in &drift.bad_lines {
-        out.push_str(&format!("<p class=\"bad\">{}: line {line} is no act</p>\n", escaped(file)));
-    }
-    out.push_str("</html>\n");
+    out.push_str(&not_readable(&drift.unread));
+    out.push_str(&format!("<h2>In all</h2>\n{counts}</html>\n"));
     out
 }
 
-/// Each entry met, how often, and what docs/DIFFERENCES.md says of it.
-fn summary(drift: &Drift) -> String {
-    let mut met: BTreeMap<String, usize> = BTreeMap::new();
-    for obligation in &drift.obligations {
-        match &obligation.outcome {
-            Outcome::Same => {}
-            Outcome::Drift(names) => names.iter().for_each(|name| *met.entry(name.clone()).or_default() += 1),
-            other => *met.entry(other.words()).or_default() += 1,
+/// What a reviewer has to look at stands first: unexplained, not compared, then by entries.
+fn groups(drift: &Drift) -> Vec<Group<'_>> {
+    let mut groups: BTreeMap<&Outcome, Vec<&Obligation>> = BTreeMap::new();
+    for obligation in drift.obligations.iter().filter(|obligation| obligation.outcome != Outcome::Same) {
+        groups.entry(&obligation.outcome).or_default().push(obligation);
+    }
+    groups.into_iter().collect()
+}
+
+/// Each entry met, how often, what docs/DIFFERENCES.md says of it, and where its obligations stand.
+fn differences_met(groups: &[Group]) -> String {
+    let mut met: BTreeMap<String, (usize, Vec<usize>)> = BTreeMap::new();
+    for (number, (outcome, obligations)) in groups.iter().enumerate() {
+        let names = match outcome {
+            Outcome::Drift(names) => names.clone(),
+            other => vec![other.words()],
+        };
+        for name in names {
+            let (count, places) = met.entry(name).or_default();
+            *count += obligations.len();
+            places.push(number);
         }
     }
-    let entries = listed::entries(listed::PAGE);
-    let mut out =
-        "<h2>Differences met</h2>\n<table>\n<tr><th>entry<th>obligations<th>what it is\n".to_string();
-    for (name, count) in met {
-        let entry = entries.iter().find(|entry| entry.name == name);
-        let (title, text) = entry.map_or(("", ""), |entry| (entry.title.as_str(), entry.text.trim()));
-        let told = match entry {
-            Some(_) => format!(
-                "<details><summary>{}</summary><pre>{}</pre></details>",
-                escaped(title),
-                escaped(text)
-            ),
-            None => "no entry of docs/DIFFERENCES.md".to_string(),
-        };
-        let mark = if entry.is_some() { "" } else { " class=\"bad\"" };
+    let mut out = "<h2>Differences met</h2>\n<table>\n\
+        <tr><th>entry<th>obligations<th>what it is<th>groups\n"
+        .to_string();
+    for (name, (count, places)) in met {
+        let (mark, told) = told_of(&name);
+        let links = places.iter().map(|number| format!("<a href=\"#group-{number}\">{}</a>", number + 1));
         out.push_str(&format!(
-            "<tr{mark} id=\"{0}\"><td>{0}<td class=\"num\">{count}<td>{told}\n",
-            escaped(&name)
+            "<tr{mark}><td>{}<td class=\"num\">{count}<td>{told}<td>{}\n",
+            escaped(&name),
+            links.collect::<Vec<_>>().join(" ")
         ));
     }
     out.push_str("</table>\n");
     out
 }
 
-fn row(obligation: &Obligation) -> String {
-    let mark = if matches!(obligation.outcome, Outcome::Drift(_)) { "" } else { " class=\"bad\"" };
-    let names = match &obligation.outcome {
-        Outcome::Drift(names) => {
-            let links = names.iter().map(|name| format!("<a href=\"#{0}\">{0}</a>", escaped(name)));
-            links.collect::<Vec<_>>().join(" ")
+/// A mark for what is no entry, and the entry's text.
+fn told_of(name: &str) -> (&'static str, String) {
+    match listed::entries(listed::PAGE).into_iter().find(|entry| entry.name == name) {
+        Some(entry) => {
+            let (title, text) = (escaped(&entry.title), escaped(entry.text.trim()));
+            ("", format!("<details><summary>{title}</summary><pre>{text}</pre></details>"))
         }
-        other => escaped(&other.words()),
-    };
-    format!(
-        "<tr{mark}><td>{}<br>{}<td>{names}<td>{}<td>{}<br>{}<td>{}\n",
-        escaped(&obligation.file),
-        escaped(&obligation.request.act),
-        lent(obligation),
-        first_program(&obligation.request).name(),
-        answered(obligation, &obligation.first),
-        answered(obligation, &obligation.second)
-    )
-}
-
-/// What was lent, in symbols, with the request's line beneath.
-fn lent(obligation: &Obligation) -> String {
-    let request = &obligation.request;
-    let shown = if request.has_sequent() {
-        loose::sequent(&request.buffers[0]).map(|sequent| show::sequent(&sequent))
-    } else {
-        loose::predicate(&request.buffers[1]).map(|predicate| vec![show::formula(&predicate)])
-    };
-    let shown = shown.map_or_else(|| "unreadable".to_string(), |lines| lines.join("\n"));
-    with_details(&shown, &request.line())
-}
-
-/// An answer in symbols, with its line beneath.
-fn answered(obligation: &Obligation, answer: &Option<Answer>) -> String {
-    let line = answer_line(answer);
-    let Some(Ok(parts)) = answer else {
-        return format!("<code>{}</code>", escaped(&line));
-    };
-    let mut shown = Vec::new();
-    for part in parts {
-        match part {
-            Part::Number(number) => shown.push(number.to_string()),
-            Part::Bytes(bytes) if obligation.request.has_sequent() => match loose::sequent(bytes) {
-                Some(sequent) => shown.extend(show::sequent(&sequent)),
-                None => shown.push(format!("report {}", answers::hex(bytes))),
-            },
-            Part::Bytes(bytes) => shown.extend(loose::predicate(bytes).map(|tree| show::formula(&tree))),
-        }
+        None => (" class=\"bad\"", "no entry of docs/DIFFERENCES.md".to_string()),
     }
-    with_details(&shown.join("\n"), &line)
 }
 
-fn with_details(shown: &str, line: &str) -> String {
+fn section(number: usize, (outcome, obligations): &Group) -> String {
+    let mark = if matches!(outcome, Outcome::Drift(_)) { "" } else { " class=\"bad\"" };
+    let mut out = format!(
+        "<h2 id=\"group-{number}\"{mark}>{}. {} ({})</h2>\n",
+        number + 1,
+        escaped(&outcome.words()),
+        obligations.len()
+    );
+    obligations.iter().for_each(|obligation| out.push_str(&article(obligation)));
+    out
+}
+
+/// One obligation: what each program gave that the other did not, and the whole below.
+fn article(obligation: &Obligation) -> String {
+    let Obligation { file, request, by, first, second, .. } = obligation;
+    let side = |name: &str, answer: &Option<Answer>, other: &Option<Answer>| {
+        let apart = told::apart(request, answer, other).join("\n");
+        format!("<div><h4>{name}</h4><pre>{}</pre></div>", escaped(&apart))
+    };
+    let whole = |title: &str, lines: Vec<String>, bytes: &str| {
+        let text = escaped(&lines.join("\n"));
+        format!("<div><h4>{title}</h4><pre>{text}</pre><code>{}</code></div>", escaped(bytes))
+    };
     format!(
-        "<pre>{}</pre><details><summary>bytes</summary><code>{}</code></details>",
-        escaped(shown),
-        escaped(line)
+        "<article><h3>{} · {}</h3><div class=\"sides\">{}{}</div>\
+        <details><summary>whole</summary><div class=\"sides\">{}{}{}</div></details></article>\n",
+        escaped(file),
+        escaped(&request.act),
+        side(by.name(), first, second),
+        side("given Rust", second, first),
+        whole("before", told::lent(request), &request.line()),
+        whole(by.name(), told::answered(request, first), &answer_line(first)),
+        whole("given Rust", told::answered(request, second), &answer_line(second))
     )
+}
+
+fn not_readable(unread: &[Unread]) -> String {
+    if unread.is_empty() {
+        return String::new();
+    }
+    let mut out = "<h2 class=\"bad\">Not readable</h2>\n<table>\n<tr><th>file<th>why\n".to_string();
+    for Unread { file, why } in unread {
+        out.push_str(&format!("<tr><td>{}<td>{}\n", escaped(file), escaped(why)));
+    }
+    out.push_str("</table>\n");
+    out
 }
 
 fn escaped(text: &str) -> String {

@@ -3,6 +3,7 @@
 pub mod archive;
 pub mod csv;
 pub mod html;
+pub mod told;
 
 use std::fs;
 use std::io;
@@ -11,31 +12,35 @@ use std::path::{Path, PathBuf};
 use answers::Answer;
 use given::Variant;
 
-use crate::explain::{self, Verdict, class::Switches};
+use crate::explain::{self, Verdict};
 use crate::listed;
 use crate::programs::Program;
 use crate::progress::Progress;
-use crate::request::{AMPLE, Request, answer_line};
+use crate::request::{AMPLE, Request};
+
+/// What one file of an archive may have; a sequent has 60,000 at most, and an act's line some more.
+const MOST_BYTES: u64 = 1 << 24;
 
 /// One act on one file, and what became of it.
 pub struct Obligation {
     pub file: String,
     pub request: Request,
-    /// What the first program gave: ours, or paper where ours is absent.
+    /// The first program: ours, or paper where ours is absent.
+    pub by: Program,
     pub first: Option<Answer>,
     /// What the given Rust gave.
     pub second: Option<Answer>,
     pub outcome: Outcome,
 }
 
-#[derive(Clone, PartialEq, Eq, Debug)]
+#[derive(Clone, PartialEq, Eq, PartialOrd, Ord, Debug)]
 pub enum Outcome {
-    Same,
+    Unexplained,
+    /// Why there is nothing to compare.
+    NotCompared(String),
     /// The entries of docs/DIFFERENCES.md.
     Drift(Vec<String>),
-    Unexplained,
-    /// The given Rust is not there, or a line cannot be read.
-    NotCompared,
+    Same,
 }
 
 impl Outcome {
@@ -44,97 +49,133 @@ impl Outcome {
             Outcome::Same => "same".to_string(),
             Outcome::Drift(names) => names.join(" "),
             Outcome::Unexplained => "UNEXPLAINED".to_string(),
-            Outcome::NotCompared => "not compared".to_string(),
+            Outcome::NotCompared(why) => format!("not compared: {why}"),
         }
     }
+}
+
+/// A file, or a line of one, that could not be replayed.
+pub struct Unread {
+    pub file: String,
+    pub why: String,
 }
 
 #[derive(Default)]
 pub struct Drift {
     pub obligations: Vec<Obligation>,
-    /// Lines of `.acts` files that are no acts: the file and the number of the line.
-    pub bad_lines: Vec<(String, usize)>,
+    pub unread: Vec<Unread>,
 }
 
-/// The program that stands first: the proved one, where it has the act.
-pub fn first_program(request: &Request) -> Program {
-    if Program::Ours.answer(request).is_some() { Program::Ours } else { Program::Paper }
-}
-
+/// Replays every *.sqt of a folder and of the folders in it.
 pub fn run(folder: &Path) -> io::Result<Drift> {
     let mut files: Vec<PathBuf> = Vec::new();
-    for entry in fs::read_dir(folder)? {
-        let path = entry?.path();
-        if path.extension().is_some_and(|ending| ending == "sqt") {
-            files.push(path);
-        }
+    collect(folder, &mut files)?;
+    if files.is_empty() {
+        return Err(io::Error::new(io::ErrorKind::NotFound, "no sequent file (*.sqt) in this folder"));
     }
     files.sort();
     let mut drift = Drift::default();
     let mut progress = Progress::new("files");
     for (index, path) in files.iter().enumerate() {
-        replay(path, &mut drift)?;
+        replay(folder, path, &mut drift);
         progress.show(index, files.len());
     }
     Ok(drift)
 }
 
-/// genMP and read on one file, and the acts listed beside it.
-fn replay(path: &Path, drift: &mut Drift) -> io::Result<()> {
-    let name = path.file_name().unwrap_or_default().to_string_lossy().into_owned();
-    let sequent = fs::read(path)?;
-    let mut requests =
-        vec![Request::ample("read", vec![sequent.clone()]), Request::ample("genmp", vec![sequent.clone()])];
-    let acts = path.with_extension("acts");
-    if acts.is_file() {
-        let text = fs::read_to_string(&acts)?;
-        for (index, line) in text.lines().enumerate().filter(|(_, line)| !line.trim().is_empty()) {
-            match act_on(&sequent, line) {
-                Some(request) => requests.push(request),
-                None => drift.bad_lines.push((format!("{name}, {}", acts.display()), index + 1)),
-            }
+/// Links to folders are not followed, because they may lead round in a circle.
+fn collect(folder: &Path, files: &mut Vec<PathBuf>) -> io::Result<()> {
+    for entry in fs::read_dir(folder)? {
+        let entry = entry?;
+        let path = entry.path();
+        if entry.file_type()?.is_dir() {
+            collect(&path, files)?;
+        } else if path.extension().is_some_and(|ending| ending == "sqt") {
+            files.push(path);
         }
-    }
-    for request in requests {
-        drift.obligations.push(obligation(&name, request));
     }
     Ok(())
 }
 
-/// A line of an `.acts` file: a request without its sequent.
+/// A file that is far too long for a sequent is not taken in.
+fn bytes_of(path: &Path) -> io::Result<Vec<u8>> {
+    let length = fs::metadata(path)?.len();
+    if length > MOST_BYTES {
+        return Err(io::Error::other(format!("{length} bytes are too many")));
+    }
+    fs::read(path)
+}
+
+/// read and genMP on one file, and the acts listed beside it; what cannot be read is noted.
+fn replay(folder: &Path, path: &Path, drift: &mut Drift) {
+    let name = |path: &Path| path.strip_prefix(folder).unwrap_or(path).to_string_lossy().into_owned();
+    let mut unread = |path: &Path, why: String| drift.unread.push(Unread { file: name(path), why });
+    let sequent = match bytes_of(path) {
+        Ok(sequent) => sequent,
+        Err(why) => return unread(path, why.to_string()),
+    };
+    let mut requests = ["read", "genmp"].map(|act| Request::ample(act, vec![sequent.clone()])).to_vec();
+    let acts = path.with_extension("acts");
+    match bytes_of(&acts) {
+        Ok(text) => {
+            let text = String::from_utf8_lossy(&text);
+            for (index, line) in text.lines().enumerate().filter(|(_, line)| !line.trim().is_empty()) {
+                match act_on(&sequent, line) {
+                    Some(request) => requests.push(request),
+                    None => unread(&acts, format!("line {} is no act", index + 1)),
+                }
+            }
+        }
+        Err(why) if why.kind() == io::ErrorKind::NotFound => {}
+        Err(why) => unread(&acts, why.to_string()),
+    }
+    let file = name(path);
+    drift.obligations.extend(requests.into_iter().map(|request| obligation(&file, request)));
+}
+
+/// A line of an `.acts` file: a request without its sequent. One that is whole, such as one-point's,
+/// stands as it is.
 fn act_on(sequent: &[u8], line: &str) -> Option<Request> {
     let (act, rest) = line.trim().split_once(' ').unwrap_or((line.trim(), ""));
-    let hex = answers::hex(sequent);
-    match act {
-        "onepoint" | "formula" => Request::parse(line),
-        _ => Request::parse(&format!("{act} {hex} {rest}")),
+    if !matches!(
+        act,
+        "read" | "select" | "deselect" | "hide" | "show" | "modify" | "forward" | "rewrite" | "genmp"
+    ) {
+        return Request::parse(line);
     }
+    Request::parse(&format!("{act} {} {rest}", answers::hex(sequent)))
 }
 
 /// Rooms are ample, because the given Rust has none.
 fn obligation(file: &str, request: Request) -> Obligation {
     let request = request.with_rooms(vec![AMPLE; request.rooms.len()]);
-    let first = first_program(&request).answer(&request);
+    let ours = Program::Ours.answer(&request);
+    let by = if ours.is_some() { Program::Ours } else { Program::Paper };
+    let first = ours.or_else(|| Program::Paper.answer(&request));
     let second = Program::Given.answer(&request);
-    let outcome = outcome(&request, &first, &second);
-    Obligation { file: file.to_string(), request, first, second, outcome }
+    let outcome = outcome(&request, &first);
+    Obligation { file: file.to_string(), request, by, first, second, outcome }
 }
 
-fn outcome(request: &Request, first: &Option<Answer>, second: &Option<Answer>) -> Outcome {
-    let compared = explain::compared(request, Variant::Unchanged);
-    let (Some(first), Some(_)) = (first, compared) else {
-        return Outcome::NotCompared;
+fn outcome(request: &Request, first: &Option<Answer>) -> Outcome {
+    let Some((paper, _, verdict)) = explain::compared(request, Variant::Unchanged) else {
+        let missing = Program::Given.missing().map(|_| "the given Rust is not there");
+        return Outcome::NotCompared(missing.unwrap_or("the given Rust has no such act").to_string());
     };
-    match explain::verdict(request, first, second, Switches::ALL) {
-        Verdict::Same => Outcome::Same,
-        Verdict::Unexplained => Outcome::Unexplained,
-        Verdict::Explained(classes) => {
+    // The classes explain document 01's answer, so the first program has to give that one.
+    if first.as_ref() != Some(&paper) {
+        return Outcome::Unexplained;
+    }
+    match (verdict, paper) {
+        (Verdict::Same, Err(refusal)) if explain::is_reading(&refusal) => {
+            Outcome::NotCompared("refused while it was read".to_string())
+        }
+        (Verdict::Same, _) => Outcome::Same,
+        (Verdict::Unexplained, _) => Outcome::Unexplained,
+        (Verdict::Explained(classes), _) => {
             let names: Vec<String> = classes.iter().map(|class| class.name().to_string()).collect();
-            if names.iter().all(|name| listed::is_listed(name)) {
-                Outcome::Drift(names)
-            } else {
-                Outcome::Unexplained
-            }
+            let listed = names.iter().all(|name| listed::is_listed(name));
+            if listed { Outcome::Drift(names) } else { Outcome::Unexplained }
         }
     }
 }
@@ -158,11 +199,11 @@ impl Drift {
             same: of(&|outcome| *outcome == Outcome::Same),
             drift: of(&|outcome| matches!(outcome, Outcome::Drift(_))),
             unexplained: of(&|outcome| *outcome == Outcome::Unexplained),
-            not_compared: of(&|outcome| *outcome == Outcome::NotCompared),
+            not_compared: of(&|outcome| matches!(outcome, Outcome::NotCompared(_))),
         }
     }
 
-    /// One line for each obligation that drifts, and the counts on the last.
+    /// A few lines for each obligation that drifts, and the counts on the last.
     pub fn text(&self, all: bool) -> String {
         let mut out = String::new();
         for obligation in &self.obligations {
@@ -170,8 +211,8 @@ impl Drift {
                 out.push_str(&text_of(obligation));
             }
         }
-        for (file, line) in &self.bad_lines {
-            out.push_str(&format!("{file}: line {line} is no act\n"));
+        for Unread { file, why } in &self.unread {
+            out.push_str(&format!("{file}: {why}\n"));
         }
         out.push_str(&format!("{}\n", self.last_line()));
         out
@@ -179,66 +220,28 @@ impl Drift {
 
     pub fn last_line(&self) -> String {
         let Counts { all, same, drift, unexplained, not_compared } = self.counts();
-        let bad = self.bad_lines.len();
+        let unread = self.unread.len();
         let compared = format!("{all} obligations: {same} same, {drift} drift, {unexplained} UNEXPLAINED");
-        format!("{compared}, {not_compared} not compared, {bad} bad lines")
+        format!("{compared}, {not_compared} not compared; {unread} files or lines not readable")
     }
 
     /// Whether every obligation was compared and every drift is listed.
     pub fn is_good(&self) -> bool {
         let counts = self.counts();
-        counts.unexplained == 0 && counts.not_compared == 0 && self.bad_lines.is_empty()
+        counts.unexplained == 0 && counts.not_compared == 0 && self.unread.is_empty()
     }
 }
 
+/// The act and its outcome, then of each answer what the other lacks.
 fn text_of(obligation: &Obligation) -> String {
-    let Obligation { file, request, first, second, outcome } = obligation;
-    let by = first_program(request).name();
-    format!(
-        "{file} {}: {}\n    {by}: {}\n    given: {}\n",
-        request.act,
-        outcome.words(),
-        answer_line(first),
-        answer_line(second)
-    )
+    let Obligation { file, request, by, first, second, outcome } = obligation;
+    let mut out = format!("{file} {}: {}\n", request.act, outcome.words());
+    for (program, answer, other) in [(*by, first, second), (Program::Given, second, first)] {
+        let lines = told::apart(request, answer, other).join("\n           ");
+        out.push_str(&format!("    {:<6} {lines}\n", program.name()));
+    }
+    out
 }
 
 #[cfg(test)]
-mod tests {
-    use super::*;
-
-    /// A folder of its own, removed at the end.
-    struct Folder(PathBuf);
-
-    impl Drop for Folder {
-        fn drop(&mut self) {
-            let _ = fs::remove_dir_all(&self.0);
-        }
-    }
-
-    #[test]
-    fn an_archive_is_replayed() {
-        let folder = Folder(std::env::temp_dir().join(format!("compare-drift-{}", std::process::id())));
-        let written = archive::write(&folder.0, 1, 30).expect("a folder for tests");
-        fs::write(folder.0.join("obligation-00003.acts"), "select 01 9\n\nsing\n").expect("a file");
-        let drift = run(&folder.0).expect("an archive");
-        let files: std::collections::BTreeSet<&str> =
-            drift.obligations.iter().map(|obligation| obligation.file.as_str()).collect();
-        assert_eq!(files.len(), written);
-        assert_eq!(drift.bad_lines.len(), 1);
-        let counts = drift.counts();
-        // Two acts for each file, two more for nine of the ten with acts beside them, and one.
-        assert_eq!(counts.all, 2 * written + 2 * 9 + 1);
-        assert_eq!(counts.unexplained, 0);
-        assert!(given::missing().is_some() || (counts.same > 0 && counts.not_compared == 0));
-        assert_eq!(csv::write(&drift).lines().count(), 1 + counts.all);
-    }
-
-    #[test]
-    fn an_act_is_read_without_its_sequent() {
-        let request = act_on(&[1, 2], "forward 00 0101 70").expect("an act");
-        assert_eq!(request.line(), "forward 0102 00 0101 70");
-        assert_eq!(act_on(&[1], "onepoint - 01 5 6").expect("an act").line(), "onepoint - 01 5 6");
-        assert_eq!(act_on(&[1], "forward 00"), None);
-    }
-}
+mod tests;

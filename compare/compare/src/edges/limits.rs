@@ -7,6 +7,9 @@ use super::{equals, file, goal, request};
 use crate::loose::list_bytes;
 use crate::request::Request;
 
+/// Room for more than 60,000 bytes.
+const ROOMY: usize = 65_000;
+
 pub fn chapters() -> Vec<Vec<Request>> {
     vec![levels(), formula_bytes(), hypothesis_counts(), identifier_counts(), file_bytes(), result_bytes()]
 }
@@ -200,7 +203,10 @@ fn result_bytes() -> Vec<Request> {
     let tall = list_bytes(&[literal_goal()]);
     out.push(request("modify", &[file_of_size(60_000), vec![0], vec![0], tall]));
     out.push(request("modify", &[file_of_size(60_000), vec![0], vec![0], list_bytes(&[truth(true)])]));
-    out
+    // With more room than a file may have, its own limit shows.
+    let roomy = |request: &Request| request.with_rooms(vec![ROOMY; request.rooms.len()]);
+    let more: Vec<Request> = out.iter().map(roomy).collect();
+    [out, more].concat()
 }
 
 fn literal_goal() -> Tree {
@@ -210,6 +216,7 @@ fn literal_goal() -> Tree {
 #[cfg(test)]
 mod tests {
     use super::*;
+    use crate::programs::Program;
 
     #[test]
     fn a_step_grows_to_its_size() {
@@ -217,6 +224,8 @@ mod tests {
             let exact = growing_step(result).exact().expect("an accepted step");
             assert_eq!(exact.rooms[0], result);
         }
-        assert_eq!(growing_step(60_001).exact(), None);
+        let beyond = growing_step(60_001).with_rooms(vec![ROOMY; 2]);
+        let refused = Program::Paper.answer(&beyond).expect("a known act");
+        assert_eq!(refused.map_err(|refusal| refusal.number), Err(14));
     }
 }

@@ -1,6 +1,7 @@
 //! Every edge that document 01 names, as requests.
 
 mod acts;
+mod genmp;
 mod limits;
 mod marked;
 mod one_point;
@@ -24,13 +25,14 @@ pub fn chapters() -> Vec<Vec<Request>> {
         reading::chapters(),
         limits::chapters(),
         acts::chapters(),
+        genmp::chapters(),
         one_point::chapters(),
         vec![refused::all()],
     ]
     .concat()
 }
 
-pub use limits::{longest, of_size as filler};
+pub use limits::{file_of_size as full_file, longest, of_size as filler};
 pub use marked::{examples, files as marked_files};
 
 /// The file of these parts, whatever their number.

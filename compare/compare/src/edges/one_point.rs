@@ -8,7 +8,7 @@ use super::request;
 use crate::request::Request;
 
 pub fn chapters() -> Vec<Vec<Request>> {
-    vec![type_buffers(), kinds(), joins(), splits(), results()]
+    vec![type_buffers(), kinds(), replacements(), joins(), splits(), results()]
 }
 
 fn over(types: &[u8], predicate: &Tree) -> Request {
@@ -57,6 +57,30 @@ fn kinds() -> Vec<Request> {
         not(&node(AND, vec![find(0), not(&not(&truth(true)))])),
     ];
     out.extend(bodies.into_iter().flat_map(quantified));
+    out
+}
+
+/// Each variable equal to what mentions each variable or none, on either side, with every variable used
+/// beside it and below another block.
+fn replacements() -> Vec<Request> {
+    let mut out = Vec::new();
+    for variables in 1..=3i64 {
+        let sum = |of: Tree| node(PLUS, vec![of, literal(1)]);
+        let mut others: Vec<Tree> = (0..variables).flat_map(|j| [bound(j), sum(bound(j))]).collect();
+        others.extend([identifier(0), literal(2), sum(identifier(0))]);
+        let used =
+            |more: i64| node(PLUS, (0..=variables).map(|j| bound((j + more) % (variables + more))).collect());
+        let beside = two(LESS, &used(0), &literal(3));
+        let below = binder(EXISTS, 1, vec![two(LESS, &used(1), &literal(4))]);
+        for (index, other) in (0..variables).flat_map(|index| others.iter().map(move |other| (index, other)))
+        {
+            for find in [two(EQUAL, &bound(index), other), two(EQUAL, other, &bound(index))] {
+                let body = node(AND, vec![beside.clone(), find, below.clone()]);
+                out.push(over(&[0], &binder(EXISTS, variables as usize, vec![body.clone()])));
+                out.push(over(&[0], &binder(FORALL, variables as usize, vec![not(&body)])));
+            }
+        }
+    }
     out
 }
 
@@ -121,23 +145,37 @@ fn splits() -> Vec<Request> {
 /// Results at 1,024 bytes and 32 levels, and beyond: a long replacement put in twice or deep inside.
 fn results() -> Vec<Request> {
     let mut out = Vec::new();
-    let sum = |count: usize| node(PLUS, vec![identifier(0); count]);
-    for count in 28..=32 {
-        for copies in [14usize, 15, 16] {
-            let body =
-                [vec![two(EQUAL, &bound(0), &sum(count))], vec![two(LESS, &bound(0), &bound(0)); copies / 2]];
-            out.push(over(&[0], &binder(EXISTS, 1, vec![node(AND, body.concat())])));
-        }
-    }
-    for size in 940..=1000 {
-        let body = node(AND, vec![two(EQUAL, &bound(0), &sum(32)), of_size(size - 80), find(0)]);
-        out.push(over(&[0], &binder(EXISTS, 1, vec![body])));
+    let sum = node(PLUS, vec![identifier(0); 32]);
+    let exists = |body: Vec<Tree>| over(&[0], &binder(EXISTS, 1, vec![node(AND, body)]));
+    let twice = two(LESS, &sum, &sum).size();
+    for size in 1020..=1030 {
+        let filler = of_size(size - 2 - twice);
+        out.push(exists(vec![two(EQUAL, &bound(0), &sum), two(LESS, &bound(0), &bound(0)), filler]));
     }
     for levels in 12..=18 {
         let deep = (0..levels).fold(identifier(0), |tree, _| node(NEGATIVE, vec![tree]));
         let place = (0..15).fold(bound(0), |tree, _| node(NEGATIVE, vec![tree]));
-        let body = node(AND, vec![two(EQUAL, &bound(0), &deep), two(LESS, &place, &literal(1))]);
-        out.push(over(&[0], &binder(EXISTS, 1, vec![body])));
+        out.push(exists(vec![two(EQUAL, &bound(0), &deep), two(LESS, &place, &literal(1))]));
     }
     out
+}
+
+#[cfg(test)]
+mod tests {
+    use super::*;
+    use crate::programs::Program;
+
+    /// The longest and deepest results are answered, and those just beyond are 14.
+    #[test]
+    fn results_reach_the_limits() {
+        let answers: Vec<_> = results().iter().map(|request| Program::Paper.answer(request)).collect();
+        let results: Vec<Tree> = answers
+            .iter()
+            .filter_map(|answer| answer.as_ref()?.as_ref().ok())
+            .map(|parts| crate::loose::predicate(parts[0].bytes().expect("a result")).expect("a predicate"))
+            .collect();
+        assert_eq!(results.iter().map(Tree::size).max(), Some(1024));
+        assert_eq!(results.iter().map(Tree::levels).max(), Some(32));
+        assert_eq!(answers.len() - results.len(), 6 + 3);
+    }
 }

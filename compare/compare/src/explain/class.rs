@@ -18,18 +18,6 @@ pub enum Class {
 }
 
 impl Class {
-    /// The classes that are a change of the lists of keys; the others are effects or other rules.
-    pub const OF_KEYS: [Class; 8] = [
-        Class::ZeroForms,
-        Class::LiteralMoved,
-        Class::MovedBelowZero,
-        Class::MinusLiteral,
-        Class::AbovePositive,
-        Class::BelowNegative,
-        Class::TrueFalse,
-        Class::NotNaturalNotZero,
-    ];
-
     pub const ALL: [Class; 12] = [
         Class::ZeroForms,
         Class::LiteralMoved,
@@ -44,6 +32,9 @@ impl Class {
         Class::JoinUnlike,
         Class::Limits,
     ];
+
+    /// The first eight are a change of the lists of keys; the others are effects or other rules.
+    pub const OF_KEYS: &'static [Class] = Class::ALL.split_at(8).0;
 
     pub fn name(self) -> &'static str {
         match self {
@@ -85,6 +76,6 @@ impl Switches {
     }
 
     pub fn classes(self) -> Vec<Class> {
-        Class::OF_KEYS.into_iter().filter(|class| self.has(*class)).collect()
+        Class::OF_KEYS.iter().copied().filter(|class| self.has(*class)).collect()
     }
 }

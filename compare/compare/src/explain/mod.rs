@@ -27,21 +27,19 @@ pub enum Verdict {
 
 /// The verdict on the given Rust's answer to a request that document 01's program answered so.
 pub fn verdict(request: &Request, paper: &Answer, given: &Option<Answer>, on: Switches) -> Verdict {
-    if is_reading(paper) {
+    if matches!(paper, Err(refusal) if is_reading(refusal)) {
         return if given.is_none() { Verdict::Same } else { Verdict::Unexplained };
     }
     match given {
         Some(given) if given == paper => Verdict::Same,
         Some(given) => explained(request, paper, given, on).map_or(Verdict::Unexplained, Verdict::Explained),
-        // More than a byte can count: only a result beyond the limits comes to that.
-        None if is_refusal(paper, 14) => Verdict::Explained(vec![Class::Limits]),
         None => Verdict::Unexplained,
     }
 }
 
 /// A refusal of the reading, which the given Rust does not have.
-fn is_reading(answer: &Answer) -> bool {
-    matches!(answer, Err(refusal) if refusal.number <= 11)
+pub fn is_reading(refusal: &Refusal) -> bool {
+    refusal.number <= 11
 }
 
 fn is_refusal(answer: &Answer, number: u8) -> bool {
@@ -53,10 +51,17 @@ fn explained(request: &Request, paper: &Answer, given: &Answer, on: Switches) ->
         "genmp" => by_keys(&request.buffers[0], paper, given, on),
         "onepoint" => one_point::explained(request, paper, given),
         _ => {
-            let limits = is_refusal(paper, 14) && unlimited(request)? == *given;
+            let limits = is_refusal(paper, 14) && unlimited(request)? == *given && beyond_limits(given);
             limits.then(|| vec![Class::Limits])
         }
     }
+}
+
+/// Whether a sequent was answered that cannot be read again: only its limits can be at fault.
+fn beyond_limits(answer: &Answer) -> bool {
+    let Ok(parts) = answer else { return false };
+    let sequent = parts.iter().find_map(Part::bytes);
+    sequent.is_some_and(|bytes| file::read(bytes).is_err())
 }
 
 /// The step's answer under some switches, without limits.
@@ -69,26 +74,26 @@ fn stepped(sequent: &Sequent, on: Switches) -> Answer {
 /// The fewest classes of keys that give the Rust's answer, and what they come to.
 fn by_keys(bytes: &[u8], paper: &Answer, given: &Answer, all: Switches) -> Option<Vec<Class>> {
     let sequent = file::read(bytes).ok()?;
-    if stepped(&sequent, all) != *given {
+    let unlimited = stepped(&sequent, Switches::NONE);
+    let limited = beyond_limits(&unlimited);
+    let said = if limited { is_refusal(paper, 14) } else { *paper == unlimited };
+    if !said || stepped(&sequent, all) != *given {
         return None;
     }
     let mut on = all;
     for class in Class::OF_KEYS {
-        let fewer = on.without(class);
+        let fewer = on.without(*class);
         if stepped(&sequent, fewer) == *given {
             on = fewer;
         }
     }
     let mut classes = on.classes();
-    let unlimited = stepped(&sequent, Switches::NONE);
     match effects::effect(&unlimited, given) {
         Effect::OtherValue => classes.push(Class::OtherValue),
         Effect::OtherOrigin => classes.push(Class::OtherOrigin),
         Effect::Other => {}
     }
-    if is_refusal(paper, 14) {
-        classes.push(Class::Limits);
-    }
+    classes.extend(limited.then_some(Class::Limits));
     // With no class at all, nothing explains that the answers differ.
     (!classes.is_empty()).then_some(classes)
 }
@@ -145,7 +150,7 @@ mod tests {
             let entry = entries.iter().find(|entry| entry.name == class.name()).expect("an entry");
             let request = Request::parse(&entry.blocks[0].request).expect("a request");
             let (_, _, verdict) = compared(&request, given::Variant::Unchanged).expect("both answer");
-            assert_eq!(verdict, Verdict::Explained(vec![class]));
+            assert_eq!(verdict, Verdict::Explained(vec![*class]));
         }
     }
 

@@ -4,9 +4,9 @@ pub mod valuations;
 
 use std::collections::BTreeMap;
 
-use answers::{Answer, Part};
+use answers::Answer;
 use given::Variant;
-use paper::meaning::{TooLarge, Valuation, Value, choices, holds, refutes, value};
+use paper::meaning::{Valuation, Value, choices, holds, refutes, value};
 use paper::tree::Tree;
 use paper::{codes, file, lent};
 
@@ -18,7 +18,8 @@ use crate::make::requests;
 use crate::programs::Program;
 use crate::progress::Progress;
 use crate::request::Request;
-use crate::run::exhaustive;
+use crate::run::bodies;
+use crate::run::exhaustive::{self, Case};
 use crate::shrink::{measure, shrink};
 
 /// How often a law of one program is shrunk anew.
@@ -27,7 +28,7 @@ const SHRINKS: usize = 6;
 /// With more variables in each other's reach, a formula has too many choices to try.
 const VARIABLES: usize = 5;
 
-/// Where a program's answers break a law.
+/// A law broken by a program: how often, and by what.
 pub struct Broken {
     pub count: usize,
     pub smallest: Request,
@@ -35,24 +36,40 @@ pub struct Broken {
     pub classes: String,
 }
 
-#[derive(Default)]
-pub struct Laws {
-    pub steps: usize,
-    pub one_points: usize,
-    /// Under each law and program.
-    pub broken: BTreeMap<(&'static str, &'static str), Broken>,
+/// What the valuations say of one answer.
+#[derive(Clone, Copy, PartialEq, Eq, Debug)]
+pub enum Judged {
+    Kept,
+    Broken,
+    /// Too many variables, or no valuation within the premise and the evaluator's numbers.
+    Untried,
 }
+
+/// One law as one program keeps it.
+#[derive(Default)]
+pub struct Kept {
+    pub tried: usize,
+    pub untried: usize,
+    pub broken: Option<Broken>,
+}
+
+/// Under each law and program.
+#[derive(Default)]
+pub struct Laws(pub BTreeMap<(&'static str, &'static str), Kept>);
+
+const PROGRAMS: [Program; 3] = [Program::Ours, Program::Paper, Program::Given];
 
 pub fn run(seed: u64, count: usize) -> Laws {
     let mut laws = Laws::default();
     let cases = exhaustive::cases(false);
     let mut progress = Progress::new("every source");
     for (index, case) in cases.iter().enumerate() {
-        laws.examine(&case.request(), seed);
+        laws.examine_keys(case, seed);
         progress.show(index, cases.len());
     }
     drop(progress);
     let mut progress = Progress::new("laws");
+    bodies::requests().iter().for_each(|request| laws.examine(request, seed));
     let mut dice = Dice::new(seed);
     for index in 0..count {
         let request =
@@ -64,33 +81,45 @@ pub fn run(seed: u64, count: usize) -> Laws {
 }
 
 impl Laws {
-    fn examine(&mut self, request: &Request, seed: u64) {
-        let law =
-            if request.act == "genmp" { "genMP keeps refuting valuations" } else { "one-point keeps truth" };
-        for program in [Program::Ours, Program::Paper, Program::Given] {
-            let Some(Ok(_)) = program.answer(request) else {
-                continue;
-            };
-            match request.act.as_str() {
-                "genmp" => self.steps += 1,
-                _ => self.one_points += 1,
-            }
-            if breaks(program, request, seed) {
-                self.note(law, program, request, seed);
-            }
+    /// Each key alone, because a wrong value hides among targets that are false beside it.
+    fn examine_keys(&mut self, case: &Case, seed: u64) {
+        let request = case.request();
+        if !PROGRAMS.iter().any(|program| matches!(program.answer(&request), Some(Ok(_)))) {
+            return;
+        }
+        match case.halves() {
+            None => self.examine(&request, seed),
+            Some(halves) => halves.iter().for_each(|half| self.examine_keys(half, seed)),
         }
     }
 
-    fn note(&mut self, law: &'static str, program: Program, request: &Request, seed: u64) {
-        let known = self.broken.get(&(law, program.name()));
-        let count = known.map_or(0, |broken| broken.count) + 1;
-        let mut smallest = known.map_or(request.clone(), |broken| broken.smallest.clone());
+    fn examine(&mut self, request: &Request, seed: u64) {
+        let law =
+            if request.act == "genmp" { "genMP keeps refuting valuations" } else { "one-point keeps truth" };
+        for program in PROGRAMS {
+            let Some(Ok(_)) = program.answer(request) else {
+                continue;
+            };
+            let kept = self.0.entry((law, program.name())).or_default();
+            let judged = judged(program, request, seed);
+            *(if judged == Judged::Untried { &mut kept.untried } else { &mut kept.tried }) += 1;
+            if judged == Judged::Broken {
+                kept.note(program, request, seed);
+            }
+        }
+    }
+}
+
+impl Kept {
+    fn note(&mut self, program: Program, request: &Request, seed: u64) {
+        let count = self.broken.as_ref().map_or(0, |broken| broken.count) + 1;
+        let mut smallest = self.broken.as_ref().map_or(request.clone(), |broken| broken.smallest.clone());
         if count <= SHRINKS {
-            let found = shrink(request, &mut |smaller| breaks(program, smaller, seed));
+            let found = shrink(request, &mut |smaller| judged(program, smaller, seed) == Judged::Broken);
             smallest = if count == 1 || measure(&found) < measure(&smallest) { found } else { smallest };
         }
         let classes = classes(program, &smallest);
-        self.broken.insert((law, program.name()), Broken { count, smallest, classes });
+        self.broken = Some(Broken { count, smallest, classes });
     }
 }
 
@@ -105,55 +134,63 @@ fn classes(program: Program, request: &Request) -> String {
 }
 
 /// Whether some small valuation shows that the program's answer breaks its law.
-pub fn breaks(program: Program, request: &Request, seed: u64) -> bool {
+pub fn judged(program: Program, request: &Request, seed: u64) -> Judged {
     let Some(answer) = program.answer(request) else {
-        return false;
+        return Judged::Untried;
     };
-    match request.act.as_str() {
-        "genmp" => refutations_change(request, &answer, seed).unwrap_or(false),
-        _ => truth_changes(request, &answer, seed).unwrap_or(false),
-    }
+    let judged = match request.act.as_str() {
+        "genmp" => refutations_kept(request, &answer, seed),
+        _ => truth_kept(request, &answer, seed),
+    };
+    judged.unwrap_or(Judged::Untried)
 }
 
 fn first_bytes(answer: &Answer) -> Option<&[u8]> {
-    match answer.as_ref().ok()?.first()? {
-        Part::Bytes(bytes) => Some(bytes),
-        Part::Number(_) => None,
-    }
+    answer.as_ref().ok()?.first()?.bytes()
 }
 
-fn refutations_change(request: &Request, answer: &Answer, seed: u64) -> Option<bool> {
+fn refutations_kept(request: &Request, answer: &Answer, seed: u64) -> Option<Judged> {
     let before = file::read(&request.buffers[0]).ok()?;
     let after = loose::sequent(first_bytes(answer)?)?;
     let formulas = before.hypotheses.iter().map(|hypothesis| &hypothesis.predicate).chain([&before.goal]);
     if formulas.map(most_variables).max() > Some(VARIABLES) {
         return None;
     }
-    let differs = |valuation: &Valuation| apart(refutes(valuation, &before), refutes(valuation, &after));
-    Some(valuations::of(&before.types, &mut Dice::new(seed)).iter().any(differs))
+    let alike = |valuation: &Valuation| {
+        let (before, after) = (refutes(valuation, &before).ok()?, refutes(valuation, &after).ok()?);
+        Some(before == after)
+    };
+    Some(over(&valuations::of(&before.types, &mut Dice::new(seed)), &alike))
 }
 
-fn truth_changes(request: &Request, answer: &Answer, seed: u64) -> Option<bool> {
+fn truth_kept(request: &Request, answer: &Answer, seed: u64) -> Option<Judged> {
     let types = lent::types(&request.buffers[0]).ok()?;
     let before = lent::formula(&request.buffers[1], &types).ok()?;
     let after = loose::predicate(first_bytes(answer)?)?;
     if most_variables(&before).max(most_variables(&after)) > VARIABLES {
         return None;
     }
-    let Some(Part::Bytes(replacement)) = answer.as_ref().ok()?.get(1) else {
-        return None;
-    };
+    let replacement = answer.as_ref().ok()?.get(1)?.bytes()?;
     let (replacement, _) = loose::formula(replacement, 0, codes::Sort::Expression)?;
-    let differs = |valuation: &Valuation| {
-        premise(valuation, before.declares(), &replacement)
-            && apart(holds(valuation, &before), holds(valuation, &after))
+    let alike = |valuation: &Valuation| {
+        if !premise(valuation, before.declares(), &replacement) {
+            return None;
+        }
+        Some(holds(valuation, &before).ok()? == holds(valuation, &after).ok()?)
     };
-    Some(valuations::of(&types, &mut Dice::new(seed)).iter().any(differs))
+    Some(over(&valuations::of(&types, &mut Dice::new(seed)), &alike))
 }
 
-/// Numbers that grow too large for the evaluator give no verdict.
-fn apart(before: Result<bool, TooLarge>, after: Result<bool, TooLarge>) -> bool {
-    matches!((before, after), (Ok(before), Ok(after)) if before != after)
+/// The verdict over some valuations, of which those that say nothing are left out.
+fn over(valuations: &[Valuation], alike: &dyn Fn(&Valuation) -> Option<bool>) -> Judged {
+    let mut judged = Judged::Untried;
+    for kept in valuations.iter().filter_map(alike) {
+        if !kept {
+            return Judged::Broken;
+        }
+        judged = Judged::Kept;
+    }
+    judged
 }
 
 /// How many variables are in reach at the place where most are.
@@ -171,17 +208,16 @@ fn premise(valuation: &Valuation, variables: usize, replacement: &Tree) -> bool 
 
 /// The summary, and whether only listed classes of the given Rust break a law.
 pub fn report(laws: &Laws) -> (String, bool) {
-    let mut out = format!("{} genMP steps and {} one-point results tried\n", laws.steps, laws.one_points);
+    let mut out = format!("{:<34}{:<8}{:>8}{:>10}{:>8}\n", "law", "program", "tried", "not tried", "broken");
     let mut good = true;
-    for ((law, program), broken) in &laws.broken {
-        let listed = broken.classes.split(' ').all(listed::is_listed);
+    for ((law, program), Kept { tried, untried, broken }) in &laws.0 {
+        let count = broken.as_ref().map_or(0, |broken| broken.count);
+        out.push_str(&format!("{law:<34}{program:<8}{tried:>8}{untried:>10}{count:>8}\n"));
+        let Some(Broken { smallest, classes, .. }) = broken else { continue };
+        let listed = classes.split(' ').all(listed::is_listed);
         good &= listed;
         let mark = if listed { "" } else { " NOT LISTED" };
-        out.push_str(&format!(
-            "{law}: broken by {program} {} times, {}{mark}\n",
-            broken.count, broken.classes
-        ));
-        out.push_str(&format!("    {}\n", broken.smallest.line()));
+        out.push_str(&format!("    {classes}{mark}: {}\n", smallest.line()));
     }
     let verdict = if good { "no law is broken but by listed classes" } else { "a law is broken" };
     out.push_str(&format!("{verdict}\n"));
@@ -191,12 +227,15 @@ pub fn report(laws: &Laws) -> (String, bool) {
 #[cfg(test)]
 mod tests {
     use super::*;
+    use answers::Part;
 
     #[test]
     fn joining_unlike_blocks_changes_truth() {
         let request = Request::parse("onepoint - 0802061021002101090115210025 100 100").expect("a request");
-        assert!(!breaks(Program::Paper, &request, 1));
-        assert_eq!(breaks(Program::Given, &request, 1), given::missing().is_none());
+        assert_ne!(judged(Program::Paper, &request, 1), Judged::Broken);
+        if given::missing().is_none() {
+            assert_eq!(judged(Program::Given, &request, 1), Judged::Broken);
+        }
     }
 
     #[test]
@@ -208,7 +247,25 @@ mod tests {
         let bytes = |text: &str| answers::unhex(text).expect("hex");
         let request = Request::ample("genmp", vec![bytes(&before)]);
         let answer = |after: &str| Ok(vec![Part::Bytes(bytes(after)), Part::Bytes(vec![1, 1, 0, 0])]);
-        assert_eq!(refutations_change(&request, &answer(&after), 1), Some(true));
-        assert_eq!(refutations_change(&request, &answer(&before), 1), Some(false));
+        assert_eq!(refutations_kept(&request, &answer(&after), 1), Some(Judged::Broken));
+        assert_eq!(refutations_kept(&request, &answer(&before), 1), Some(Judged::Kept));
+    }
+
+    #[test]
+    fn an_answer_outside_the_premise_is_not_tried() {
+        // ∃x·x=9 gives ⊤, and 9 is in no interval that is tried.
+        let request = Request::parse("onepoint - 0901102100220900000000000000 100 100").expect("a request");
+        assert_eq!(judged(Program::Paper, &request, 1), Judged::Untried);
+    }
+
+    /// Every source meets some of its keys alone, under some valuation.
+    #[test]
+    fn keys_are_tried_alone() {
+        let mut laws = Laws::default();
+        let cases = exhaustive::cases(false);
+        cases.iter().step_by(100).for_each(|case| laws.examine_keys(case, 1));
+        let tried = laws.0.values().map(|kept| kept.tried).sum::<usize>();
+        assert!(tried > cases.len() / 100, "{tried}");
+        assert!(laws.0.values().all(|kept| kept.broken.is_none()));
     }
 }

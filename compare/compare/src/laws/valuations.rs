@@ -10,7 +10,8 @@ const INTERVALS: [(i128, i128); 3] = [(0, 1), (-1, 1), (1, 1)];
 /// The values tried for an identifier of this type.
 fn values(byte: u8) -> Vec<Value> {
     match byte {
-        0 => (-2..=2).map(Value::Number).collect(),
+        // One beyond the literals of the probes on either side.
+        0 => (-3..=3).map(Value::Number).collect(),
         1 => vec![Value::Truth(false), Value::Truth(true)],
         _ => {
             let members: [&[i128]; 5] = [&[], &[0], &[1], &[-1, 0], &[0, 1]];
@@ -46,7 +47,7 @@ mod tests {
     #[test]
     fn few_valuations_are_all_tried() {
         let tried = of(&[0, 1], &mut Dice::new(1));
-        assert_eq!(tried.len(), 5 * 2 * 3);
+        assert_eq!(tried.len(), 7 * 2 * 3);
         assert!(tried.iter().enumerate().all(|(index, one)| !tried[..index].contains(one)));
     }
 }

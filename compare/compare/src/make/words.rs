@@ -44,5 +44,5 @@ impl Words {
 /// A literal, at times below a unary minus.
 fn literal_leaf(dice: &mut Dice) -> Tree {
     let value = if dice.once_in(8) { dice.pick(&RARE) } else { dice.pick(&COMMON) };
-    if dice.once_in(5) && value != i64::MIN { node(NEGATIVE, vec![literal(value)]) } else { literal(value) }
+    if dice.once_in(5) { node(NEGATIVE, vec![literal(value)]) } else { literal(value) }
 }

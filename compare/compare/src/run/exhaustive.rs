@@ -49,9 +49,16 @@ fn numbers(wide: bool) -> Vec<Probe> {
     }
 }
 
+/// The ends of the eight-byte literals, where a literal moved by one has no eight bytes.
+fn ends() -> Probe {
+    let (least, most) = (literal(i64::MIN), literal(i64::MAX));
+    let minus = |of: &Tree| node(NEGATIVE, vec![of.clone()]);
+    integers(&[identifier(0), minus(&least), minus(&most), least, most])
+}
+
 /// Integers by name alone, where no literal plays a part.
 fn names() -> Probe {
-    let terms = [identifier(0), identifier(1), literal(i64::MAX), literal(i64::MIN)];
+    let terms = [identifier(0), identifier(1)];
     let relations = between(&terms, &[EQUAL, LESS, LESS_EQUAL, GREATER, GREATER_EQUAL]);
     Probe { types: vec![0, 0], relations }
 }
@@ -97,15 +104,25 @@ impl Case {
         Request::ample("genmp", vec![sequent_bytes(&sequent)])
     }
 
-    fn half(&self, targets: &[Tree]) -> Case {
-        Case { types: self.types.clone(), source: self.source.clone(), targets: targets.to_vec(), ..*self }
+    /// The same source against each half of the targets; none for a target alone.
+    pub fn halves(&self) -> Option<[Case; 2]> {
+        let (left, right) = self.targets.split_at(self.targets.len() / 2);
+        let of = |targets: &[Tree]| Case {
+            types: self.types.clone(),
+            source: self.source.clone(),
+            targets: targets.to_vec(),
+            ..*self
+        };
+        (!left.is_empty()).then(|| [of(left), of(right)])
     }
 }
 
 /// Every source, true and false, as a hypothesis and as a goal, against every target.
 pub fn cases(wide: bool) -> Vec<Case> {
     let mut out = Vec::new();
-    for Probe { types, relations } in numbers(wide).into_iter().chain([names(), sets(), truth_values()]) {
+    for Probe { types, relations } in
+        numbers(wide).into_iter().chain([ends(), names(), sets(), truth_values()])
+    {
         for source in relations.iter().flat_map(|relation| [relation.clone(), not(relation)]) {
             for targets in relations.chunks(TOGETHER) {
                 for source_is_goal in [false, true] {
@@ -120,11 +137,12 @@ pub fn cases(wide: bool) -> Vec<Case> {
 
 /// Targets together are only held alike or not; where they differ, by halves down to single ones.
 pub fn examine(tally: &mut Tally, case: &Case) {
-    if case.targets.len() == 1 {
-        tally.examine(&case.request());
-    } else if tally.differs(&case.request()) {
-        let (left, right) = case.targets.split_at(case.targets.len() / 2);
-        examine(tally, &case.half(left));
-        examine(tally, &case.half(right));
+    match case.halves() {
+        None => tally.examine(&case.request()),
+        Some(halves) => {
+            if tally.differs(&case.request()) {
+                halves.iter().for_each(|half| examine(tally, half));
+            }
+        }
     }
 }

@@ -1,7 +1,10 @@
 //! `compare run`: all programs against each other on edges, small vocabularies and random requests.
 
+pub mod bodies;
 pub mod exhaustive;
 pub mod tally;
+
+use std::panic::{AssertUnwindSafe, catch_unwind};
 
 use crate::edges;
 use crate::listed;
@@ -20,7 +23,8 @@ struct Fixed {
 
 /// Examines everything; the summary is written by `report`.
 pub fn run(seed: u64, count: usize, wide: bool) -> Tally {
-    let fixed = Fixed { requests: [of_page(), edges::all()].concat(), cases: exhaustive::cases(wide) };
+    let requests = [of_page(), edges::all(), bodies::requests()].concat();
+    let fixed = Fixed { requests, cases: exhaustive::cases(wide) };
     let workers = std::thread::available_parallelism().map_or(1, |many| many.get().min(4));
     let mut tally = Tally::default();
     std::thread::scope(|scope| {
@@ -55,18 +59,26 @@ fn share(fixed: &Fixed, seed: u64, count: usize, worker: usize, workers: usize) 
         *done += workers;
     };
     for request in fixed.requests.iter().skip(worker).step_by(workers) {
-        tally.examine(request);
+        caught(&mut tally, request, |tally| tally.examine(request));
         step(&mut done);
     }
     for case in fixed.cases.iter().skip(worker).step_by(workers) {
-        exhaustive::examine(&mut tally, case);
+        caught(&mut tally, &case.request(), |tally| exhaustive::examine(tally, case));
         step(&mut done);
     }
     for number in (worker..count).step_by(workers) {
-        tally.examine(&requests::any(&mut Dice::new(seed).branch(number)));
+        let request = requests::any(&mut Dice::new(seed).branch(number));
+        caught(&mut tally, &request, |tally| tally.examine(&request));
         step(&mut done);
     }
     tally
+}
+
+/// A program that panics is a fault with its request, and the run goes on.
+fn caught(tally: &mut Tally, request: &Request, examine: impl FnOnce(&mut Tally)) {
+    if catch_unwind(AssertUnwindSafe(|| examine(tally))).is_err() {
+        tally.panicked(request);
+    }
 }
 
 /// The summary, and whether nothing is unexplained.
@@ -84,7 +96,10 @@ pub fn report(tally: &Tally) -> (String, bool) {
     out.push_str(&format!(
         "{given} accepted requests answered by paper and by given, {accepted} with success\n"
     ));
-    out.push_str(&format!("{} differences between paper and given, by class:\n", tally.differing));
+    out.push_str(&format!(
+        "{} differences between paper and given, by class with its smallest input:\n",
+        tally.differing
+    ));
     let mut unlisted = 0;
     for (class, found) in &tally.classes {
         let listed = if listed::is_listed(class.name()) {

@@ -2,10 +2,11 @@
 
 use std::collections::BTreeMap;
 
+use answers::Part;
 use given::Variant;
 
 use crate::explain::class::Class;
-use crate::explain::{Verdict, compared};
+use crate::explain::{Verdict, compared, is_reading};
 use crate::programs::Program;
 use crate::request::{Request, answer_line};
 use crate::shrink::{measure, shrink};
@@ -52,6 +53,7 @@ impl Tally {
         self.requests += 1;
         self.against_ours(request);
         self.against_rooms(request);
+        self.against_reading(request);
         self.against_given(request, Variant::Cut);
         self.against_given(request, Variant::Unchanged);
     }
@@ -61,9 +63,10 @@ impl Tally {
         self.requests += 1;
         self.against_ours(request);
         self.against_given(request, Variant::Cut);
-        let given = Program::Given.answer(request);
+        let (given, paper) = (Program::Given.answer(request), Program::Paper.answer(request));
         self.given += usize::from(given.is_some());
-        given.is_some() && given != Program::Paper.answer(request)
+        self.accepted += usize::from(given.is_some() && matches!(paper, Some(Ok(_))));
+        given.is_some() && given != paper
     }
 
     /// Takes in what another worker found.
@@ -125,9 +128,23 @@ impl Tally {
     fn paper_says(&mut self, request: &Request, expected: &str) {
         let found = answer_line(&Program::Paper.answer(request));
         if found != expected {
-            self.fault_count += 1;
-            let answers = [found, expected.to_string()];
-            self.faults.push(Fault { between: "paper and its rooms", request: request.clone(), answers });
+            self.add("paper and its rooms", request, [found, expected.to_string()]);
+        }
+    }
+
+    /// A result is within the limits: document 01's program reads what it wrote.
+    fn against_reading(&mut self, request: &Request) {
+        let answer = Program::Paper.answer(request);
+        let Some(Ok(parts)) = &answer else { return };
+        let Some(written) = parts.iter().find_map(Part::bytes) else { return };
+        let again = if request.has_sequent() {
+            Request::ample("read", vec![written.to_vec()])
+        } else {
+            Request::ample("formula", vec![request.buffers[0].clone(), written.to_vec()])
+        };
+        let read = Program::Paper.answer(&again);
+        if !matches!(read, Some(Ok(_))) {
+            self.add("paper and its reading", request, [answer_line(&answer), answer_line(&read)]);
         }
     }
 
@@ -135,7 +152,7 @@ impl Tally {
         let Some((paper, _, verdict)) = compared(request, variant) else {
             return;
         };
-        let is_accepted = !matches!(&paper, Err(refusal) if refusal.number <= 11);
+        let is_accepted = !matches!(&paper, Err(refusal) if is_reading(refusal));
         match variant {
             Variant::Cut => self.cut += usize::from(is_accepted),
             Variant::Unchanged => {
@@ -198,12 +215,23 @@ impl Tally {
         programs: [Program; 2],
         keeps: &mut dyn FnMut(&Request) -> bool,
     ) {
+        let shown = self.faults.len() < SHOWN;
+        let small = if shown { shrink(request, keeps) } else { request.clone() };
+        self.add(between, &small, programs.map(|program| answer_line(&program.answer(&small))));
+    }
+
+    /// Every fault counts, and the first few are shown.
+    fn add(&mut self, between: &'static str, request: &Request, answers: [String; 2]) {
         self.fault_count += 1;
         if self.faults.len() < SHOWN {
-            let small = shrink(request, keeps);
-            let answers = programs.map(|program| answer_line(&program.answer(&small)));
-            self.faults.push(Fault { between, request: small, answers });
+            self.faults.push(Fault { between, request: request.clone(), answers });
         }
+    }
+
+    /// A request on which a program did not come to an answer at all.
+    pub fn panicked(&mut self, request: &Request) {
+        let words = ["no answer: a program panicked".to_string(), "an answer".to_string()];
+        self.add("a program and its end", request, words);
     }
 }
 
