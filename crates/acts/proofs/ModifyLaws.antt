@@ -28,7 +28,7 @@ use Rattle.acts.specs.declared.ListedThree.{ListedThree}
 use Rattle.acts.specs.declared.ListedThree.the-variants as three
 use Rattle.sequent.specs.declared.Appended.{Appended}
 use Rattle.sequent.specs.declared.Appended.the-variants as appended
-use Rattle.sequent.proofs.Bytes.{same-is, is-same}
+use Rattle.formula.proofs.SameBytes.{same-is, is-same}
 use Rattle.acts.proofs.ActsKeep.{adds-grown}
 use Rattle.sequent.proofs.Formulas.{each}
 use Rattle.acts.proofs.AtPosition.{found-present, not-present, change-found, change-long}

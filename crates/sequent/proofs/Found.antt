@@ -8,38 +8,19 @@ use native.Mathlib.Omega.{arith}
 use lib.ListN.{length, getD, take, drop, length-append, length-take}
 use lib.Seq.{getD-drop, drop-drop}
 use lib.Dec.{eqb}
-use borrow.Author.Tests.{eq-eqb, le-ltb, lt-leb, eqb-true, eqb-false}
+use borrow.Author.Tests.{le-ltb, lt-leb, eqb-true, eqb-false}
 use Rattle.formula.specs.Pick.{pick}
 use Rattle.formula.specs.Tree.{Tree, encode}
 use Rattle.formula.specs.Equal.{sameAt}
-use Rattle.formula.proofs.Choices.{never, and-left, and-right}
-use Rattle.formula.proofs.EqualLaws.{same-is, is-same}
+use Rattle.formula.proofs.Choices.{never}
+use Rattle.formula.proofs.SameType.{same-test}
+use Rattle.formula.proofs.SameBytes.{same-bytes-is, same-ranges}
 use Rattle.sequent.specs.Sequent.{Hypothesis, sameBytes, same}
 use Rattle.sequent.specs.File.{hypothesesBytes}
 use Rattle.sequent.specs.Desk.{placesFrom, Stand, Holds, Range, indexOf, FindIs}
 use Rattle.sequent.specs.DeskBytes.{sameRange, findFrom, findAt}
 use Rattle.sequent.specs.declared.View.{View}
 use Rattle.sequent.proofs.Laid.{range-count}
-
--- ---- equal bytes
-pub bytes-same : (xs ys : List ℕ) → sameBytes xs ys ≡ true → xs ≡ ys
-unfolding sameBytes
-bytes-same [] [] e = refl
-bytes-same [] (y ∷ ys) e = never e
-bytes-same (x ∷ xs) [] e = never e
-bytes-same (x ∷ xs) (y ∷ ys) e =
-    let p = eqb-true x y (and-left (eqb x y) (sameBytes xs ys) e) in
-    let q = bytes-same xs ys (and-right (eqb x y) (sameBytes xs ys) e) in cc
-
-pub same-self : (xs : List ℕ) → sameBytes xs xs ≡ true
-unfolding sameBytes
-same-self [] = refl
-same-self (x ∷ xs) = simp (eq-eqb x x refl) (same-self xs)
-
-both-ways : (b c : Bool) → (b ≡ true → c ≡ true) → (c ≡ true → b ≡ true) → b ≡ c
-both-ways true c f g = sym (f refl)
-both-ways false true f g = g refl
-both-ways false false f g = refl
 
 -- ---- the code's test
 module _ (d : List ℕ) (p n : ℕ) (x : List ℕ) (a e : ℕ) (y z : Tree) (R : Range x a e y) (n≡ : n ≡ length (encode z)) (there : take n (drop (p + 1) d) ≡ encode z) (in-desk : p + 1 + n ≤ length d) where
@@ -48,15 +29,12 @@ module _ (d : List ℕ) (p n : ℕ) (x : List ℕ) (a e : ℕ) (y z : Tree) (R :
       let i = R .inside in
       let f = R .from-to in
       let t : take (e - a) (drop (p + 1) d) ≡ encode z = ap (λ (m : ℕ). take m (drop (p + 1) d)) (sym k) ∙ there in
-      both-ways (sameAt (e - a) d (p + 1) x a) (sameBytes (encode z) (encode y))
-      (λ q. let m = same-is d x (e - a) (p + 1) a (omega arith) (omega arith) q in
-      let w : encode z ≡ encode y = sym t ∙ m ∙ R .bytes-are in rw w (same-self (encode y)))
-      (λ q. is-same d x (e - a) (p + 1) a (omega arith) (omega arith) (t ∙ bytes-same (encode z) (encode y) q ∙ sym (R .bytes-are)))
+      same-ranges d x (e - a) (p + 1) a (omega arith) (omega arith) ∙ rw (t, R .bytes-are) refl
 
   other-length : (n ≡ e - a → ⊥) → false ≡ sameBytes (encode z) (encode y)
   other-length k =
-      both-ways false (sameBytes (encode z) (encode y)) never
-      (λ q. absurd (k (n≡ ∙ ap length (bytes-same (encode z) (encode y) q) ∙ range-count x a e y R)))
+      same-test false (sameBytes (encode z) (encode y)) never
+      (λ q. absurd (k (n≡ ∙ ap length (same-bytes-is (encode z) (encode y) q) ∙ range-count x a e y R)))
 
   range-is : sameRange d p (p + 1 + n) x a e ≡ same z y
   unfolding sameRange same

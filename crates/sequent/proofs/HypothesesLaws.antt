@@ -29,7 +29,7 @@ use Rattle.sequent.specs.declared.View.{View}
 use Rattle.sequent.specs.declared.Item.{Item}
 use Rattle.sequent.specs.declared.Item.the-variants as item
 use Rattle.sequent.specs.declared.Stage.the-variants as stage
-use Rattle.sequent.proofs.Bytes.{same-is, is-same}
+use Rattle.formula.proofs.SameBytes.{same-is, is-same}
 use Rattle.sequent.proofs.Apart.{present-none, present-cons, bytes-append}
 use Rattle.sequent.proofs.SeenIs.{OfSeen, Stood, predicate-stood}
 use Rattle.sequent.proofs.FileLaws.{all-bytes}
