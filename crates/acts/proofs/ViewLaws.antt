@@ -11,7 +11,7 @@ use Rattle.acts.specs.Acts.{differs}
 use Rattle.sequent.specs.Desk.{Holds}
 use Rattle.acts.specs.Steps.{viewsDiffer, Extends}
 use Rattle.sequent.specs.declared.View.{View}
-use Rattle.sequent.proofs.Bytes.{same-refl, same-bytes-refl}
+use Rattle.formula.proofs.SameBytes.{same-refl, same-bytes-refl}
 use Rattle.acts.proofs.ChangedIs.{differs-masks}
 
 module _ (v w : View) (goal : Bool) where

@@ -1,4 +1,4 @@
--- What the crate proves, from the ground up. The theorems for callers: Accepted, OneFormula, Typed, GoodType, EqualLaws.
+-- What the crate proves, from the ground up. The theorems for callers: Accepted, OneFormula, Typed, GoodType, EqualLaws, SameBytes.
 
 -- choices and tables
 pub mod Choices
@@ -46,3 +46,4 @@ pub mod SidesAre
 pub mod ReadIs
 pub mod WholeIs
 pub mod Accepted
+pub mod SameBytes

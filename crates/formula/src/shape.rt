@@ -12,7 +12,7 @@ use super::table::row_at;
 use super::table::type_by;
 
 // The type of the node at i, by its code.
-fn type_at(s: &[u8], rows: &[u64; 51], types: &[u8], i: usize) -> usize
+pub fn type_at(s: &[u8], rows: &[u64; 51], types: &[u8], i: usize) -> usize
     requires { ⌜ now rows ≡ table ⌝ }
     ensures { λ r. ⌜ r ≡ typeAt (now (s .entry)) (now (types .entry)) i ⌝ }
 {

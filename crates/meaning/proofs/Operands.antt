@@ -158,7 +158,7 @@ equal-has (pair v₁ v₂) w e d =
     let r = equal-has v₂ (p .0 .1) (sym (p .3)) (and-right (data? (tyOf v₁)) (data? (tyOf v₂)) d) in
     (l .0 && r .0, rw (p .1, l .1, r .1))
 
-kind-data : (τ : Ty) → good τ ≡ true → among? (kindOf τ) anyData ≡ true → data? τ ≡ true
+pub kind-data : (τ : Ty) → good τ ≡ true → among? (kindOf τ) anyData ≡ true → data? τ ≡ true
 kind-data (base b) g h = elim b as (λ b. among? (one b) anyData ≡ true → dataBase? b ≡ true) [ T.prop ↦ λ h. never h | T.int ↦ λ h. refl | T.boo ↦ λ h. refl | T.set ↦ λ h. refl | T.nats ↦ λ h. never h | T.nats1 ↦ λ h. never h ] h
 kind-data (T.pair a b) g h = g
 

@@ -12,7 +12,7 @@ use Rattle.formula.proofs.Choices.{never}
 use Rattle.sequent.specs.Sequent.{Hypothesis, same, flagIn, holds, present}
 use Rattle.sequent.specs.File.{hypothesesBytes}
 use Rattle.sequent.specs.Accepted.{Predicates, Different}
-use Rattle.sequent.proofs.Bytes.{same-sym}
+use Rattle.formula.proofs.SameBytes.{same-sym}
 
 pub or-false : (a b : Bool) → (a || b) ≡ false → (a ≡ false) × (b ≡ false)
 or-false true b e = never (sym e)

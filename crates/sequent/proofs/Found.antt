@@ -8,12 +8,13 @@ use native.Mathlib.Omega.{arith}
 use lib.ListN.{length, getD, take, drop, length-append, length-take}
 use lib.Seq.{getD-drop, drop-drop}
 use lib.Dec.{eqb, ltb}
-use borrow.Author.Tests.{eq-eqb, le-ltb, lt-ltb, lt-leb, eqb-true, eqb-false, ltb-true, ltb-false}
+use borrow.Author.Tests.{le-ltb, lt-ltb, lt-leb, eqb-true, eqb-false, ltb-true, ltb-false}
 use Rattle.formula.specs.Pick.{pick}
 use Rattle.formula.specs.Tree.{Tree, encode}
 use Rattle.formula.specs.Equal.{sameAt}
-use Rattle.formula.proofs.Choices.{never, and-left, and-right}
-use Rattle.formula.proofs.EqualLaws.{same-is, is-same}
+use Rattle.formula.proofs.Choices.{never}
+use Rattle.formula.proofs.SameType.{same-test}
+use Rattle.formula.proofs.SameBytes.{same-bytes-is, same-ranges}
 use Rattle.sequent.specs.Sequent.{Hypothesis, sameBytes, same, present}
 use Rattle.sequent.specs.File.{hypothesesBytes}
 use Rattle.sequent.specs.Desk.{placesFrom, Stand, Holds, Range, indexOf, FindIs}
@@ -22,40 +23,18 @@ use Rattle.sequent.specs.declared.View.{View}
 use Rattle.sequent.proofs.Apart.{present-none, present-cons}
 use Rattle.sequent.proofs.Laid.{range-count}
 
--- ---- equal bytes
-pub bytes-same : (xs ys : List ℕ) → sameBytes xs ys ≡ true → xs ≡ ys
-unfolding sameBytes
-bytes-same [] [] e = refl
-bytes-same [] (y ∷ ys) e = never e
-bytes-same (x ∷ xs) [] e = never e
-bytes-same (x ∷ xs) (y ∷ ys) e =
-    let p = eqb-true x y (and-left (eqb x y) (sameBytes xs ys) e) in
-    let q = bytes-same xs ys (and-right (eqb x y) (sameBytes xs ys) e) in cc
-
-pub same-self : (xs : List ℕ) → sameBytes xs xs ≡ true
-unfolding sameBytes
-same-self [] = refl
-same-self (x ∷ xs) = simp (eq-eqb x x refl) (same-self xs)
-
-both-ways : (b c : Bool) → (b ≡ true → c ≡ true) → (c ≡ true → b ≡ true) → b ≡ c
-both-ways true c f g = sym (f refl)
-both-ways false true f g = g refl
-both-ways false false f g = refl
-
 -- ---- the code's test
 module _ (x : List ℕ) (a e : ℕ) (X : Tree) (R : Range x a e X) (y : List ℕ) (b f : ℕ) (Y : Tree) (S : Range y b f Y) where
   same-at : e - a ≡ f - b → sameAt (e - a) x a y b ≡ sameBytes (encode X) (encode Y)
   same-at k =
       let l : a + (e - a) ≤ length x = omega (arith, R .from-to, R .inside) in
       let m : b + (e - a) ≤ length y = omega (arith, S .from-to, S .inside) in
-      both-ways (sameAt (e - a) x a y b) (sameBytes (encode X) (encode Y))
-      (λ q. let w : encode X ≡ encode Y = sym (R .bytes-are) ∙ same-is x y (e - a) a b l m q ∙ rw k (S .bytes-are) in rw w (same-self (encode Y)))
-      (λ q. is-same x y (e - a) a b l m (R .bytes-are ∙ bytes-same (encode X) (encode Y) q ∙ rw k (sym (S .bytes-are))))
+      same-ranges x y (e - a) a b l m ∙ rw (R .bytes-are, k, S .bytes-are) refl
 
   other-length : (e - a ≡ f - b → ⊥) → false ≡ sameBytes (encode X) (encode Y)
   other-length k =
-      both-ways false (sameBytes (encode X) (encode Y)) never
-      (λ q. absurd (k (sym (range-count x a e X R) ∙ ap length (bytes-same (encode X) (encode Y) q) ∙ range-count y b f Y S)))
+      same-test false (sameBytes (encode X) (encode Y)) never
+      (λ q. absurd (k (sym (range-count x a e X R) ∙ ap length (same-bytes-is (encode X) (encode Y) q) ∙ range-count y b f Y S)))
 
   -- ranges that hold formulas are the same if the formulas are
   pub ranges-same : sameRange x a e y b f ≡ same X Y

@@ -1,4 +1,3 @@
-pub mod Bytes
 pub mod Apart
 pub mod Formulas
 pub mod SeenIs

@@ -1,5 +1,5 @@
 -- A sequent as the code holds it: its bytes, where each hypothesis stands, and the flags as two masks.
-use Prim.Native.Nat.{ℕ, zero, suc, _+_, _*_, _-_, _<_, _≤_}
+use Prim.Native.Nat.{ℕ, zero, suc, _+_, _*_, _<_, _≤_}
 use mathlib.Core.Logic.{_⊎_}
 use mathlib.Core.Path.{_≡_}
 use mathlib.Core.List.{List, [], _∷_, _++_}
@@ -7,6 +7,7 @@ use mathlib.Core.Bool.{Bool, true, false}
 use lib.ListN.{length, take, drop}
 use Rattle.formula.specs.Pick.{pick}
 use Rattle.formula.specs.Tree.{Tree, encode}
+pub use Rattle.formula.specs.Equal.{Range}
 use Rattle.formula.specs.declared.Said.{Said}
 use Rattle.sequent.specs.Sequent.{Flag, plain, hidden, selected, Hypothesis, Sequent, isHidden, isSelected, same}
 use Rattle.sequent.specs.File.{hypothesesBytes}
@@ -99,12 +100,6 @@ ListedIs types most b starts (listed.Read n) = Lists types most b starts n
 ListedIs types most b starts (listed.Refused z) = Not b (lentList types most b) z
 
 -- ---- what the acts do on the desk
--- the bytes of x from a to e are those of the formula y
-pub record Range (x : List ℕ) (a e : ℕ) (y : Tree) : Type 0 where
-  pub from-to : a ≤ e
-  pub inside : e ≤ length x
-  pub bytes-are : take (e - a) (drop a x) ≡ encode y
-
 -- the position of the hypothesis equal to y; their number if there is none
 unfoldable pub indexOf : List Hypothesis → Tree → ℕ
 indexOf [] y = 0

@@ -1,11 +1,11 @@
 -- Document 01: "Sequents with ordered hypotheses and flags".
 use Prim.Native.Nat.{ℕ, _+_}
 use mathlib.Core.List.{List, [], _∷_}
-use mathlib.Core.Bool.{Bool, true, false, not, _&&_, _||_}
+use mathlib.Core.Bool.{Bool, true, false, not, _||_}
 use mathlib.Core.Option.{Option, some, none}
-use lib.Dec.{eqb}
 use Rattle.formula.specs.Pick.{pick}
-use Rattle.formula.specs.Tree.{Tree, encode}
+use Rattle.formula.specs.Tree.{Tree}
+unfoldable pub use Rattle.formula.specs.Equal.{sameBytes, same}
 
 -- "0 plain, 1 hidden, 2 selected"
 pub data Flag : Type 0 where
@@ -40,15 +40,6 @@ countOf f [] = 0
 countOf f (h ∷ hs) = pick (f (h .flag)) 1 0 + countOf f hs
 
 -- ---- formulas are compared by their bytes
-unfoldable pub sameBytes : List ℕ → List ℕ → Bool
-sameBytes [] [] = true
-sameBytes [] (y ∷ ys) = false
-sameBytes (x ∷ xs) [] = false
-sameBytes (x ∷ xs) (y ∷ ys) = eqb x y && sameBytes xs ys
-
-unfoldable pub same : Tree → Tree → Bool
-same x y = sameBytes (encode x) (encode y)
-
 unfoldable pub among : Tree → List Tree → Bool
 among x [] = false
 among x (y ∷ ys) = same y x || among x ys

@@ -1,16 +1,19 @@
--- Equality of bytes is equality, and formulas that are accepted are equal where their bytes are.
-use Prim.Native.Nat.{ℕ}
-use mathlib.Core.Path.{_≡_, refl, sym, ap, _∙_}
-use mathlib.Core.Bool.{Bool, true, false}
+-- The same bytes are equal, and formulas that are accepted are equal where their bytes are.
+use Prim.Native.Nat.{ℕ, _+_, _≤_}
+use mathlib.Core.Path.{_≡_, refl, sym, ap}
+use mathlib.Core.Bool.{true}
 use mathlib.Core.List.{List, [], _∷_}
+use lib.ListN.{length, take, drop}
 use lib.Dec.{eqb}
 use borrow.Author.Tests.{eq-eqb, eqb-true}
 use Rattle.formula.specs.Tree.{Tree, encode}
 use Rattle.formula.specs.Formula.{Formula}
 use Rattle.formula.specs.declared.Sort.{Sort}
 use Rattle.formula.proofs.Accepted.{same-tree}
+use Rattle.formula.proofs.SameType.{same-test}
+use Rattle.formula.proofs.EqualLaws as EqualLaws
 use Rattle.formula.proofs.Choices.{never, and-left, and-right}
-use Rattle.sequent.specs.Sequent.{sameBytes, same}
+use Rattle.formula.specs.Equal.{sameBytes, same, sameAt}
 
 pub same-bytes-refl : (xs : List ℕ) → sameBytes xs xs ≡ true
 unfolding sameBytes
@@ -30,6 +33,13 @@ same-bytes-is (x ∷ xs) (y ∷ ys) e =
 pub is-same-bytes : (xs ys : List ℕ) → xs ≡ ys → sameBytes xs ys ≡ true
 is-same-bytes xs ys e = rw (← e) (same-bytes-refl xs)
 
+-- ranges of as many bytes
+pub same-ranges : (s t : List ℕ) (n a b : ℕ) → a + n ≤ length s → b + n ≤ length t → sameAt n s a t b ≡ sameBytes (take n (drop a s)) (take n (drop b t))
+same-ranges s t n a b h k =
+    same-test (sameAt n s a t b) (sameBytes (take n (drop a s)) (take n (drop b t)))
+    (λ e. is-same-bytes (take n (drop a s)) (take n (drop b t)) (EqualLaws.same-is s t n a b h k e))
+    (λ e. EqualLaws.is-same s t n a b h k (same-bytes-is (take n (drop a s)) (take n (drop b t)) e))
+
 -- ---- formulas
 pub same-is : (x y : Tree) → same x y ≡ true → encode x ≡ encode y
 unfolding same
@@ -48,12 +58,7 @@ unfolding same
 same-by x x′ y y′ e f = rw (e, f) refl
 
 pub same-bytes-sym : (xs ys : List ℕ) → sameBytes xs ys ≡ sameBytes ys xs
-same-bytes-sym xs ys = go (sameBytes xs ys) (sameBytes ys xs) refl refl
-  where
-    go : (b c : Bool) → sameBytes xs ys ≡ b → sameBytes ys xs ≡ c → b ≡ c
-    go true c p q = sym (is-same-bytes ys xs (sym (same-bytes-is xs ys p))) ∙ q
-    go false true p q = sym p ∙ is-same-bytes xs ys (sym (same-bytes-is ys xs q))
-    go false false p q = refl
+same-bytes-sym xs ys = same-test (sameBytes xs ys) (sameBytes ys xs) (λ e. is-same-bytes ys xs (sym (same-bytes-is xs ys e))) (λ e. is-same-bytes xs ys (sym (same-bytes-is ys xs e)))
 
 pub same-sym : (x y : Tree) → same x y ≡ same y x
 unfolding same
