@@ -1,0 +1,11 @@
+pub mod FirstLaws
+pub mod WordLaws
+pub mod DigitLaws
+pub mod PatternLaws
+pub mod ReplyLaws
+pub mod RightIs
+pub mod AnswerLaws
+pub mod LentLaws
+pub mod LineLaws
+pub mod MeansIs
+pub mod TallyLaws

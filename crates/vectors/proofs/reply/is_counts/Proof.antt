@@ -1,0 +1,17 @@
+use Rattle.vectors.proofs.ReplyLaws.{ands}
+use borrow.Author.Needs.{needs}
+use Rattle.vectors.proofs.reply.is_counts.Statement.{statement}
+use Rattle.vectors.proofs.reply.is_counts.Tie as tie
+
+pub is-counts-spec : {M : Type 1} → statement M
+is-counts-spec =
+    tie.close
+    (tie.spec
+    (λ c κs. search needs)
+    (λ c. search (needs, ands) depth 7)
+    (λ c κs. search needs)
+    (λ c. search (needs, ands) depth 7)
+    (λ c κs. search needs)
+    (λ c. search (needs, ands) depth 7)
+    (λ c κs. search needs)
+    (λ c. search (needs, ands) depth 7))

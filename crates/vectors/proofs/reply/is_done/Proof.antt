@@ -1,0 +1,13 @@
+use Rattle.vectors.proofs.ReplyLaws.{ands}
+use borrow.Author.Needs.{needs}
+use Rattle.vectors.proofs.reply.is_done.Statement.{statement}
+use Rattle.vectors.proofs.reply.is_done.Tie as tie
+
+pub is-done-spec : {M : Type 1} → statement M
+is-done-spec =
+    tie.close
+    (tie.spec
+    (λ c κs. search needs)
+    (λ c. search (needs, ands) depth 7)
+    (λ c κs. search needs)
+    (λ c. search (needs, ands) depth 7))

@@ -1,0 +1,12 @@
+pub mod First
+pub mod Words
+pub mod Digits
+pub mod Pattern
+pub mod Reply
+pub mod Right
+pub mod Answers
+pub mod Lent
+pub mod Line
+pub mod Means
+pub mod Tally
+pub mod Held
