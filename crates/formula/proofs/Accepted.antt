@@ -8,7 +8,7 @@ use lib.ListN.{length, drop, length-map}
 use Rattle.formula.specs.Types.{Ty, typeOfByte, typesOf}
 use Rattle.formula.specs.Tree.{Tree, encode}
 use Rattle.formula.specs.Formed.{Formed}
-use Rattle.formula.specs.Wrong.{firstWrong}
+use Rattle.formula.specs.Typing.{firstWrong}
 use Rattle.formula.specs.Reading.{Parsed, got, not-got, formulaAt}
 use Rattle.formula.specs.Formula.{typed?, asked8, treeAt, endOrRefusal, readFormula, Formula}
 use Rattle.formula.specs.declared.Sort.{Sort}

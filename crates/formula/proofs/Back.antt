@@ -11,13 +11,15 @@ use lib.Dec.{ltb, leb, eqb}
 use borrow.Author.Tests.{leb-false, ltb-false, eqb-false, not-false}
 use Rattle.formula.specs.Pick.{pick}
 use Rattle.formula.specs.Codes.{Code, byteOf, codeAt, withNumber}
-use Rattle.formula.specs.Rows.{rowOf, width, ownLength, countOut, indexOut, operands, sortOf, sortOfKinds, sortOfRest}
+use Rattle.formula.specs.NodeTable.{rowOf, width, ownLength, operands, sortOf, sortOfKinds, sortOfRest, sameSort}
 use Rattle.formula.specs.Tree.{Tree, node, Trees, _▹_, size, numberOf, numberBytes, encode, encodes}
 use Rattle.formula.specs.Formed.{inner, Formed, AllFormed}
-use Rattle.formula.specs.Reading.{Parsed, got, not-got, onGot, sameSort, numberAt, ownBytes, nodeAt, operandsBy, nodeBy, formulaAt}
-use Rattle.formula.specs.declared.Cause.{Cause}
+use Rattle.formula.specs.Reading.{Parsed, got, not-got, onFault, onGot, numberAt, ownBytes, nodeAt, operandsBy, nodeBy, formulaAt}
+use Rattle.refusal.specs.declared.Cause.{Cause}
 use Rattle.formula.specs.declared.Sort.{Sort}
 use Rattle.formula.specs.declared.Sort.the-variants as sort
+use Rattle.formula.specs.NodeFault.{Fault, otherSort, numberOut, nodeFault}
+use Rattle.formula.proofs.FaultLaws.{no-fault}
 use Rattle.formula.proofs.Places.{AllBytes, one-more}
 use Rattle.formula.proofs.Coded.{byte-is, same-byte, same-row}
 use Rattle.formula.proofs.Numbers.{carried-at, number-back, number-small, own-bytes, own-long, given-number}
@@ -37,11 +39,9 @@ unless : {A : Type 0} (P : A → ℕ → Type 0) (b : Bool) (c : Cause) (p : ℕ
 unless P true c p z h = tt
 unless P false c p z h = h refl
 
-one-sort : (σ ρ : Sort) → sameSort σ ρ ≡ true → σ ≡ ρ
-one-sort sort.Predicate sort.Predicate e = refl
-one-sort sort.Predicate sort.Expression e = absurd (let z : _≡_ {A = ℕ} 0 1 = cc in omega arith)
-one-sort sort.Expression sort.Predicate e = absurd (let z : _≡_ {A = ℕ} 0 1 = cc in omega arith)
-one-sort sort.Expression sort.Expression e = refl
+on-fault : {A : Type 0} (P : A → ℕ → Type 0) (at : ℕ) (f : Option Fault) (z : Parsed A) → (f ≡ none → OfGot P z) → OfGot P (onFault at f z)
+on-fault P at none z h = h refl
+on-fault P at (some f) z h = tt
 
 module _ (s : List ℕ) (t limit : ℕ) where
   -- ---- the own bytes of a node
@@ -56,17 +56,14 @@ module _ (s : List ℕ) (t limit : ℕ) where
   own-read : (l d : ℕ) (σ : Sort) (at : ℕ) (o : Option Code) → codeAt (getD s at 0) ≡ o → OfGot (OwnRead l d σ at) (ownBytes s t limit l d σ at o)
   own-read l d σ at none e = tt
   own-read l d σ at (some k) e =
-      unless P (ltb (length s) (at + ownLength k)) _ _ _ λ inside.
-      unless P (not (sameSort (sortOf (rowOf k .result)) σ)) _ _ _ λ sorted.
-      unless P (countOut (rowOf k .number) w) _ _ _ λ counted.
-      unless P (indexOut (rowOf k .number) w t d) _ _ _ λ indexed.
-      unless P (eqb l 0) _ _ _ λ leveled.
-      unless P (ltb limit (at + ownLength k)) _ _ (got (withNumber k w) (operands (rowOf k .arity) w)) λ room.
-      let i = ltb-false _ _ inside in
-      let r = ltb-false _ _ room in
-      let v : l ≡ 0 → ⊥ = eqb-false l 0 leveled in
+      on-fault P at (nodeFault (ltb (length s) (at + ownLength k)) (otherSort σ k) (numberOut (rowOf k .number) w t d) (eqb l 0) (ltb limit (at + ownLength k)) (rowOf k .number))
+      (got (withNumber k w) (operands (rowOf k .arity) w)) λ e₁.
+      let F = no-fault (ltb (length s) (at + ownLength k)) (otherSort σ k) (numberOut (rowOf k .number) w t d) (eqb l 0) (ltb limit (at + ownLength k)) (rowOf k .number) e₁ in
+      let i = ltb-false _ _ (F .not-cut) in
+      let r = ltb-false _ _ (F .not-long) in
+      let v : l ≡ 0 → ⊥ = eqb-false l 0 (F .not-deep) in
       record {
-        tested = record { sort-is = rw R (one-sort _ σ (not-false _ sorted)); count-in = rw (R, N) counted; index-in = rw (R, N) indexed; operands-are = rw (R, N) refl };
+        tested = record { faultless = rw (R, N, F .same-sort, F .in-range) refl; operands-are = rw (R, N) refl };
         level-left = omega arith;
         in-limit = rw R r;
         in-bytes = rw R i;

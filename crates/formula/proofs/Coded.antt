@@ -10,7 +10,7 @@ use borrow.Author.Tests.{eqb-true}
 use Rattle.formula.specs.Pick as Pick
 use Rattle.formula.specs.Codes.{Con, Rel, Fun, Many, Bind, Code, con, ident, bound, lit, rel, fun, many, qu, conByte, relByte, funByte, manyByte, bindByte, byteOf, codes, codeAt, withNumber}
 use Rattle.formula.specs.Codes.{top, bot, empty, nat, nat1, tru, fls, eq, lt, le, gt, ge, mem, sub, sube, neg, imp, iff, minus, uminus, diff, bool, mapsto, and, or, add, mul, union, inter, ext, all, ex, compr}
-use Rattle.formula.specs.Rows.{Row, rowOf}
+use Rattle.formula.specs.NodeTable.{Row, rowOf}
 use Rattle.formula.proofs.Choices.{and-left, and-right}
 use Rattle.formula.proofs.Every.{every, every-code}
 

@@ -5,11 +5,12 @@ use mathlib.Core.List.{List, [], _∷_}
 use mathlib.Core.Bool.{Bool, true, false, _&&_}
 use mathlib.Core.Option.{Option, some, none}
 use Rattle.formula.specs.Types.{Base, prop, int, boo, set, nats, nats1, Ty, base, pair, typesOf, typeAt}
-use Rattle.formula.specs.Rows.{rowOf, Result, is, ofIdentifier, ofPair, sortOf, sortOfTy}
+use Rattle.formula.specs.NodeTable.{rowOf, Result, is, ofIdentifier, ofPair, sortOf, sortOfTy}
 use Rattle.formula.specs.Tree.{Tree, node, size, numberOf}
 use Rattle.formula.specs.Formed.{Formed}
-use Rattle.formula.specs.Wrong.{pairOf, resultOf, headType, headTypes}
+use Rattle.formula.specs.Typing.{pairOf, resultOf, headType, headTypes}
 use Rattle.formula.specs.declared.Sort.{Sort}
+use Rattle.formula.proofs.FaultLaws.{sort-is}
 use Rattle.formula.specs.declared.Sort.the-variants as sort
 use Rattle.formula.proofs.Shaped.{Shaped}
 use Rattle.formula.proofs.Choices.{never, and-left, and-right}
@@ -76,8 +77,8 @@ sort-result ofPair Γ m os τ h e = pair-expression os τ e
 
 pub sort-shaped : (x : Tree) (l t d : ℕ) (σ : Sort) (Γ : List Ty) (τ : Ty) → allData Γ ≡ true → Shaped l t d σ x → headType Γ x ≡ some τ → sortOfTy τ ≡ σ
 unfolding Shaped headType
-sort-shaped (node k xs) l t d σ Γ τ h g e = sort-result (rowOf k .result) Γ (numberOf k (size xs)) (headTypes Γ xs) τ h e ∙ g .1 .sort-is
+sort-shaped (node k xs) l t d σ Γ τ h g e = sort-result (rowOf k .result) Γ (numberOf k (size xs)) (headTypes Γ xs) τ h e ∙ sort-is t d σ k (size xs) (g .1 .faultless)
 
 pub sort-type : (x : Tree) (l t d : ℕ) (σ : Sort) (Γ : List Ty) (τ : Ty) → allData Γ ≡ true → Formed l t d σ x → headType Γ x ≡ some τ → sortOfTy τ ≡ σ
 unfolding Formed headType
-sort-type (node k xs) l t d σ Γ τ h g e = sort-result (rowOf k .result) Γ (numberOf k (size xs)) (headTypes Γ xs) τ h e ∙ g .1 .sort-is
+sort-type (node k xs) l t d σ Γ τ h g e = sort-result (rowOf k .result) Γ (numberOf k (size xs)) (headTypes Γ xs) τ h e ∙ sort-is t d σ k (size xs) (g .1 .faultless)

@@ -10,7 +10,7 @@ use lib.Seq.{drop-cons}
 use lib.Dec.{eqb}
 use borrow.Author.Tests.{eq-eqb, ne-eqb, eqb-true, eqb-false}
 use Rattle.formula.specs.Pick.{pick}
-use Rattle.formula.specs.Equal.{sameAt}
+use Rattle.formula.specs.Mirror.Ranges.{sameAt}
 use Rattle.formula.proofs.Choices.{never}
 
 module _ (s t : List ℕ) (i j : ℕ) (z : Bool) where

@@ -7,10 +7,10 @@ use mathlib.Core.Option.{Option, some}
 use mathlib.Core.Logic.{⊎-elim}
 use Rattle.formula.specs.Codes.{Code, codes}
 use Rattle.formula.specs.Types.{Base-discrete, Ty, base, pair, Kind, one, pairs, Kind-discrete, kindOf, eqKind, among?, Want, among, Rest, these, asFirst, may, wantNext, mayAll}
-use Rattle.formula.specs.Rows.{rowOf, Result, is, ofIdentifier, ofPair}
+use Rattle.formula.specs.NodeTable.{rowOf, Result, is, ofIdentifier, ofPair}
 use Rattle.formula.specs.Tree.{Tree, node, Trees, nil, _▹_, size, numberOf}
 use Rattle.formula.specs.Formed.{inner}
-use Rattle.formula.specs.Wrong.{pairOf, resultOf, right, wellMade, typeOf, typesIn}
+use Rattle.formula.specs.Typing.{pairOf, resultOf, right, wellMade, typeOf, typesIn}
 use Rattle.formula.proofs.Choices.{never, and-left, and-right, and-both, or-cases, pick-some}
 use Rattle.formula.proofs.Every.{every}
 use Rattle.formula.proofs.Coded.{every-row}

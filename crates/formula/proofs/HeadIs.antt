@@ -12,11 +12,11 @@ use Rattle.formula.specs.Pick.{pick}
 use Rattle.formula.specs.Codes.{Code}
 use Rattle.formula.specs.Types as T
 use Rattle.formula.specs.Types.{Base, prop, int, boo, set, nats, nats1, Ty, base, pair, one, pairs, kindOf, typeOfByte, typesOf}
-use Rattle.formula.specs.Rows.{rowOf, ownLength, is}
+use Rattle.formula.specs.NodeTable.{rowOf, ownLength, is}
 use Rattle.formula.specs.Tree.{Tree, node, Trees, nil, _▹_, size, numberOf}
-use Rattle.formula.specs.Wrong.{pairOf, resultOf, headType, headTypes}
-use Rattle.formula.specs.Columns.{rowAt, bit, resultBit, identType, typeBy}
-use Rattle.formula.specs.Bytes.{byteAt, ownByte, typeAt}
+use Rattle.formula.specs.Typing.{pairOf, resultOf, headType, headTypes}
+use Rattle.formula.specs.Mirror.PackedTable.{rowAt, bit, resultBit, identType, typeBy}
+use Rattle.formula.specs.Mirror.Bytes.{byteAt, ownByte, typeAt}
 use Rattle.formula.proofs.Choices.{none-some}
 use Rattle.formula.proofs.Stands.{NodeAt, Stands, StandAll}
 use Rattle.formula.proofs.OwnIs.{Sense, plain, named, joined, columns-there, sense-there, own-there}
@@ -83,12 +83,12 @@ module _ (s types : List ℕ) where
       → (τ : Ty) × (resultOf (rowOf k .result) (typesOf types) (numberOf k n) os ≡ some τ)
   node-type p k n os N h a = go (sense-there N)
     where
-      go : Sense (rowOf k) (byteAt s p) → (τ : Ty) × (resultOf (rowOf k .result) (typesOf types) (numberOf k n) os ≡ some τ)
-      go (plain b q e) = rw q (base b, refl)
-      go (named q ν e) =
-          let i : leb (length types) (numberOf k n) ≡ false = rw ν at (N .index-in) in
+      go : Sense (rowOf k) → (τ : Ty) × (resultOf (rowOf k .result) (typesOf types) (numberOf k n) os ≡ some τ)
+      go (plain b q) = rw q (base b, refl)
+      go (named q ν) =
+          let i : leb (length types) (numberOf k n) ≡ false = rw ν at (N .number-in) in
           rw q (typeOfByte (getD types (numberOf k n) 0), ident-has types (numberOf k n) (leb-false _ _ i))
-      go (joined q w α e) =
+      go (joined q w α) =
           let i : n ≡ 2 = rw α at (N .operands-are) in
           rw q (pair-typed os (h ∙ i) a)
 
@@ -112,16 +112,16 @@ module _ (s types : List ℕ) where
       m : ℕ
       m = ownByte (rowAt (byteAt s p)) s (p + 1)
 
-      go : Sense (rowOf k) (byteAt s p) → pick (eqb (resultBit (rowOf k .result)) 0) (identType types m) (resultBit (rowOf k .result)) ≡ bit (kindOf τ)
-      go (plain b q _) =
+      go : Sense (rowOf k) → pick (eqb (resultBit (rowOf k .result)) 0) (identType types m) (resultBit (rowOf k .result)) ≡ bit (kindOf τ)
+      go (plain b q) =
           let i : some (base b) ≡ some τ = rw q at e in
           let j : base b ≡ τ = cc in
           rw (q, ← j) (base-bit b (identType types m))
-      go (named q ν _) =
+      go (named q ν) =
           let w : m ≡ numberOf k n = own-there N (rw ν (omega arith)) in
           let i : T.typeAt (typesOf types) (numberOf k n) ≡ some τ = rw q at e in
           rw q (ap (identType types) w ∙ ident-type types (numberOf k n) τ i)
-      go (joined q w α _) =
+      go (joined q w α) =
           let i : pairOf os ≡ some τ = rw q at e in
           rw q (ap bit (sym (pair-kind os τ i)))
 

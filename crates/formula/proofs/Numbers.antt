@@ -8,7 +8,7 @@ use lib.ListN.{length, getD, take, drop, length-drop}
 use lib.Seq.{take-at, length-take-le}
 use Rattle.formula.specs.Codes.{Con, Rel, Fun, Many, Bind, Code, con, ident, bound, lit, rel, fun, many, qu, withNumber}
 use Rattle.formula.specs.Codes.{top, bot, empty, nat, nat1, tru, fls, eq, lt, le, gt, ge, mem, sub, sube, neg, imp, iff, minus, uminus, diff, bool, mapsto, and, or, add, mul, union, inter, ext, all, ex, compr}
-use Rattle.formula.specs.Rows.{Number, nothing, identifier, index, word, count, variables, conRow, relRow, funRow, manyRow, bindRow, rowOf, width, operands}
+use Rattle.formula.specs.NodeTable.{Number, nothing, identifier, index, word, count, variables, conRow, relRow, funRow, manyRow, bindRow, rowOf, width, operands}
 use Rattle.formula.specs.Tree.{bytesLE, numberOf, numberBytes}
 use Rattle.formula.specs.Reading.{numberAt, ofLE}
 use Rattle.formula.proofs.Places.{head-is, one-more, parted, AllBytes, drop-bytes, take-bytes, byte-small, le-long, le-there, le-back, le-small}
@@ -19,8 +19,8 @@ bytesOf nothing n = []
 bytesOf identifier n = n ∷ []
 bytesOf index n = n ∷ []
 bytesOf word n = bytesLE 8 n
-bytesOf (count lo) n = n ∷ []
-bytesOf variables n = n ∷ []
+bytesOf (count lo hi) n = n ∷ []
+bytesOf (variables lo hi) n = n ∷ []
 
 -- where nothing is carried, the number is 0
 abbrev pub carried : Number → ℕ → ℕ
@@ -28,11 +28,11 @@ carried nothing n = 0
 carried identifier n = n
 carried index n = n
 carried word n = n
-carried (count lo) n = n
-carried variables n = n
+carried (count lo hi) n = n
+carried (variables lo hi) n = n
 
 pub bytes-long : (f : Number) (n : ℕ) → length (bytesOf f n) ≡ width f
-bytes-long f n = elim f [ nothing ↦ refl | identifier ↦ refl | index ↦ refl | word ↦ le-long 8 n | count lo ↦ refl | variables ↦ refl ]
+bytes-long f n = elim f [ nothing ↦ refl | identifier ↦ refl | index ↦ refl | word ↦ le-long 8 n | count lo hi ↦ refl | variables lo hi ↦ refl ]
 
 module _ (s : List ℕ) (i : ℕ) where
   word-there : (n : ℕ) (r : List ℕ) → n < 2 ^ 64 → drop i s ≡ bytesLE 8 n ++ r → ofLE (take 8 (drop i s)) ≡ n
@@ -44,11 +44,11 @@ module _ (s : List ℕ) (i : ℕ) where
   number-there identifier n r h e = head-is s i n r e
   number-there index n r h e = head-is s i n r e
   number-there word n r h e = word-there n r h e
-  number-there (count lo) n r h e = head-is s i n r e
-  number-there variables n r h e = head-is s i n r e
+  number-there (count lo hi) n r h e = head-is s i n r e
+  number-there (variables lo hi) n r h e = head-is s i n r e
 
   pub carried-at : (f : Number) → carried f (numberAt f s i) ≡ numberAt f s i
-  carried-at = elim [ nothing ↦ refl | identifier ↦ refl | index ↦ refl | word ↦ refl | count lo ↦ refl | variables ↦ refl ]
+  carried-at = elim [ nothing ↦ refl | identifier ↦ refl | index ↦ refl | word ↦ refl | count lo hi ↦ refl | variables lo hi ↦ refl ]
 
   module _ (B : AllBytes s) where
     one-back : i + 1 ≤ length s → drop i s ≡ (getD s i 0 ∷ []) ++ drop (i + 1) s
@@ -66,8 +66,8 @@ module _ (s : List ℕ) (i : ℕ) where
     number-back identifier h = one-back h
     number-back index h = one-back h
     number-back word h = word-back h
-    number-back (count lo) h = one-back h
-    number-back variables h = one-back h
+    number-back (count lo hi) h = one-back h
+    number-back (variables lo hi) h = one-back h
 
     byte-in-word : getD s i 0 < 2 ^ 64
     byte-in-word = let b = byte-small s i B in omega arith
@@ -77,8 +77,8 @@ module _ (s : List ℕ) (i : ℕ) where
     number-small identifier = byte-in-word
     number-small index = byte-in-word
     number-small word = le-small 8 (drop i s) (drop-bytes i s B)
-    number-small (count lo) = byte-in-word
-    number-small variables = byte-in-word
+    number-small (count lo hi) = byte-in-word
+    number-small (variables lo hi) = byte-in-word
 
 -- ---- by the code's form
 con-plain : (c : Con) → conRow c .number ≡ nothing
@@ -90,7 +90,7 @@ rel-plain = elim [ eq ↦ refl | lt ↦ refl | le ↦ refl | gt ↦ refl | ge �
 fun-plain : (f : Fun) → funRow f .number ≡ nothing
 fun-plain = elim [ neg ↦ refl | imp ↦ refl | iff ↦ refl | minus ↦ refl | uminus ↦ refl | diff ↦ refl | bool ↦ refl | mapsto ↦ refl ]
 
-bind-declares : (b : Bind) → bindRow b .number ≡ variables
+bind-declares : (b : Bind) → bindRow b .number ≡ variables 1 8
 bind-declares = elim [ all ↦ refl | ex ↦ refl | compr ↦ refl ]
 
 many-bytes : (m : Many) (n : ℕ) → n ∷ [] ≡ bytesOf (manyRow m .number) n

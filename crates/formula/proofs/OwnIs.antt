@@ -11,60 +11,55 @@ use borrow.Author.Tests.{eqb-true, leb-true, not-true}
 use Rattle.formula.specs.Pick.{pick, at}
 use Rattle.formula.specs.Codes.{Code, codes, codeAt, byteOf}
 use Rattle.formula.specs.Types.{Base, base, pair}
-use Rattle.formula.specs.Rows.{Row, rowOf, Number, nothing, identifier, index, word, count, variables, width, Arity, fixed, counted, operands, Result, is, ofIdentifier, ofPair}
+use Rattle.formula.specs.NodeTable.{Row, rowOf, Number, nothing, identifier, index, word, count, variables, width, Arity, fixed, counted, operands, Result, is, ofIdentifier, ofPair}
 use Rattle.formula.specs.Tree.{numberOf}
 use Rattle.formula.specs.Reading.{numberAt}
-use Rattle.formula.specs.Columns.{rowAt, own, limit, arityByte, countOf}
-use Rattle.formula.specs.Bytes.{byteAt, ownByte}
+use Rattle.formula.specs.Mirror.PackedTable.{rowAt, own, limit, arityByte, countOf}
+use Rattle.formula.specs.Mirror.Bytes.{byteAt, ownByte}
 use Rattle.formula.proofs.Choices.{never, none-some, and-left, and-right}
 use Rattle.formula.proofs.Every.{every, every-code}
-use Rattle.formula.proofs.Coded.{byte-is}
+use Rattle.formula.proofs.Coded.{every-row}
+use Rattle.formula.proofs.NodeType.{names?}
 use Rattle.formula.proofs.TableIs.{Columns, columns-at, count-is}
 use Rattle.formula.proofs.Stands.{NodeAt}
 
 -- ---- what a row's type says of the rest of the row and of its byte
-abbrev tied : Result → Number → Arity → ℕ → Bool
-tied (is (base b)) ν a c = not (eqb c 47)
-tied (is (pair σ τ)) ν a c = false
-tied ofIdentifier ν a c = eqb (limit ν) 0 && not (eqb c 47)
-tied ofPair ν a c = eqb (width ν) 0 && (eqb (arityByte a) 2 && eqb c 47)
+abbrev tied : Result → Number → Arity → Bool
+tied (is (base b)) ν a = true
+tied (is (pair σ τ)) ν a = false
+tied ofIdentifier ν a = names? ν
+tied ofPair ν a = eqb (width ν) 0 && eqb (arityByte a) 2
 
--- ↦ alone makes pairs
-pub data Sense (r : Row) (c : ℕ) : Type 0 where
-  plain : (b : Base) → r .result ≡ is (base b) → eqb c 47 ≡ false → Sense r c
-  named : r .result ≡ ofIdentifier → r .number ≡ identifier → eqb c 47 ≡ false → Sense r c
-  joined : r .result ≡ ofPair → width (r .number) ≡ 0 → r .arity ≡ fixed 2 → eqb c 47 ≡ true → Sense r c
+pub data Sense (r : Row) : Type 0 where
+  plain : (b : Base) → r .result ≡ is (base b) → Sense r
+  named : r .result ≡ ofIdentifier → r .number ≡ identifier → Sense r
+  joined : r .result ≡ ofPair → width (r .number) ≡ 0 → r .arity ≡ fixed 2 → Sense r
 
-is-named : (ν : Number) → limit ν ≡ 0 → ν ≡ identifier
-is-named nothing e = absurd (omega (arith, e))
+is-named : (ν : Number) → names? ν ≡ true → ν ≡ identifier
+is-named nothing e = never e
 is-named identifier e = refl
-is-named index e = absurd (omega (arith, e))
-is-named word e = absurd (omega (arith, e))
-is-named (count lo) e = absurd (omega (arith, e))
-is-named variables e = absurd (omega (arith, e))
+is-named index e = never e
+is-named word e = never e
+is-named (count lo hi) e = never e
+is-named (variables lo hi) e = never e
 
 is-two : (a : Arity) → arityByte a ≡ 2 → a ≡ fixed 2
 is-two (fixed k) e = ap fixed e
 is-two counted e = absurd (omega (arith, e))
 
-sense-by : (r : Row) (c : ℕ) → tied (r .result) (r .number) (r .arity) c ≡ true → Sense r c
-sense-by r c e = go (r .result) refl e
+sense-by : (r : Row) → tied (r .result) (r .number) (r .arity) ≡ true → Sense r
+sense-by r e = go (r .result) refl e
   where
-    go : (ρ : Result) → r .result ≡ ρ → tied ρ (r .number) (r .arity) c ≡ true → Sense r c
-    go (is (base b)) q e = plain b q (not-true (eqb c 47) e)
+    go : (ρ : Result) → r .result ≡ ρ → tied ρ (r .number) (r .arity) ≡ true → Sense r
+    go (is (base b)) q e = plain b q
     go (is (pair σ τ)) q e = never e
-    go ofIdentifier q e =
-        let z = and-left (eqb (limit (r .number)) 0) (not (eqb c 47)) e in
-        named q (is-named (r .number) (eqb-true _ _ z)) (not-true (eqb c 47) (and-right (eqb (limit (r .number)) 0) (not (eqb c 47)) e))
+    go ofIdentifier q e = named q (is-named (r .number) e)
     go ofPair q e =
-        let z = and-left (eqb (width (r .number)) 0) (eqb (arityByte (r .arity)) 2 && eqb c 47) e in
-        let w = and-right (eqb (width (r .number)) 0) (eqb (arityByte (r .arity)) 2 && eqb c 47) e in
-        joined q (eqb-true _ _ z) (is-two (r .arity) (eqb-true _ _ (and-left (eqb (arityByte (r .arity)) 2) (eqb c 47) w))) (and-right (eqb (arityByte (r .arity)) 2) (eqb c 47) w)
+        joined q (eqb-true _ _ (and-left (eqb (width (r .number)) 0) (eqb (arityByte (r .arity)) 2) e)) (is-two (r .arity) (eqb-true _ _ (and-right (eqb (width (r .number)) 0) (eqb (arityByte (r .arity)) 2) e)))
 
-sense-of : (b : ℕ) (k : Code) → codeAt b ≡ some k → Sense (rowOf k) b
+pub sense-of : (k : Code) → Sense (rowOf k)
 unfolding every codes
-sense-of b k q =
-    rw (← byte-is b k q) (sense-by (rowOf k) (byteOf k) (every-code (λ k. tied (rowOf k .result) (rowOf k .number) (rowOf k .arity) (byteOf k)) refl b k q))
+sense-of k = sense-by (rowOf k) (every-row (λ r. tied (r .result) (r .number) (r .arity)) refl k)
 
 -- ---- a number of at most one byte is the byte after the code; only such a number counts operands
 byte-by : (ν : Number) (s : List ℕ) (i : ℕ) → width ν ≤ 1 → pick (eqb (width ν) 0) 0 (getD s i 0) ≡ numberAt ν s i
@@ -72,8 +67,8 @@ byte-by nothing s i h = refl
 byte-by identifier s i h = refl
 byte-by index s i h = refl
 byte-by word s i h = absurd (omega (arith, h))
-byte-by (count lo) s i h = refl
-byte-by variables s i h = refl
+byte-by (count lo hi) s i h = refl
+byte-by (variables lo hi) s i h = refl
 
 count-narrow : (b : ℕ) (k : Code) → codeAt b ≡ some k → pick (eqb (arityByte (rowOf k .arity)) 3) (leb (width (rowOf k .number)) 1) true ≡ true
 unfolding every codes
@@ -88,9 +83,8 @@ module _ {s : List ℕ} {t p : ℕ} {k : Code} {n : ℕ} (N : NodeAt s t p k n) 
   unfolding byteAt
   columns-there = rw (N .row-is) (columns-at (getD s p 0) (N .sign) (N .code-is))
 
-  pub sense-there : Sense (rowOf k) (byteAt s p)
-  unfolding byteAt
-  sense-there = rw (N .row-is) (sense-of (getD s p 0) (N .sign) (N .code-is))
+  pub sense-there : Sense (rowOf k)
+  sense-there = sense-of k
 
   pub own-there : width (rowOf k .number) ≤ 1 → ownByte (rowAt (byteAt s p)) s (p + 1) ≡ numberOf k n
   unfolding ownByte byteAt

@@ -7,11 +7,12 @@ use native.Mathlib.Numerals.{sub-one}
 use native.Mathlib.Omega.{arith}
 use lib.ListN.{length, getD}
 use Rattle.formula.specs.Codes.{Code, codeAt}
-use Rattle.formula.specs.Rows.{Row, rowOf, ownLength, sortOfKinds, sortOfRest}
+use Rattle.formula.specs.NodeTable.{Row, rowOf, ownLength, sortOfKinds, sortOfRest}
 use Rattle.formula.specs.Tree.{Tree, node, Trees, nil, _▹_, size}
 use Rattle.formula.specs.Formed.{inner}
 use Rattle.formula.specs.Reading.{Parsed, got, nodeAt, operandsBy, nodeBy, formulaAt}
 use Rattle.formula.specs.declared.Sort.{Sort}
+use Rattle.formula.proofs.FaultLaws.{number-in}
 use Rattle.formula.proofs.Coded.{code-back}
 use Rattle.formula.proofs.Back.{OfGot, on-got, OwnRead, node-read, no-level}
 use Rattle.formula.proofs.Stands.{NodeAt, Stands, StandAll}
@@ -28,7 +29,7 @@ module _ (s : List ℕ) (t limit : ℕ) where
         number-is = O .number-was;
         operands-are = O .tested .operands-are;
         bound = d;
-        index-in = O .tested .index-in;
+        number-in = number-in t d σ k n (O .tested .faultless);
       }
 
   AllThere : ℕ → ℕ → ℕ → Trees → ℕ → Type 0

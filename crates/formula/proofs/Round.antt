@@ -9,18 +9,15 @@ use native.Mathlib.Omega.{arith}
 use lib.ListN.{length, drop, length-append}
 use borrow.Author.Tests.{lt-leb, le-ltb, ne-eqb}
 use Rattle.formula.specs.Codes.{Code, byteOf, withNumber}
-use Rattle.formula.specs.Rows.{rowOf, ownLength, sortOf, sortOfKinds, sortOfRest}
+use Rattle.formula.specs.NodeTable.{rowOf, ownLength, sortOfKinds, sortOfRest}
 use Rattle.formula.specs.Tree.{Tree, node, Trees, nil, _▹_, size, numberOf, numberBytes, encode, encodes}
 use Rattle.formula.specs.Formed.{Allowed, inner, Formed, AllFormed}
-use Rattle.formula.specs.Reading.{Parsed, got, sameSort, numberAt, nodeAt, operandsBy, nodeBy, formulaAt}
+use Rattle.formula.specs.Reading.{Parsed, got, numberAt, nodeAt, operandsBy, nodeBy, formulaAt}
 use Rattle.formula.specs.declared.Sort.{Sort}
-use Rattle.formula.specs.declared.Sort.the-variants as sort
+use Rattle.formula.proofs.FaultLaws.{Faultless, sound}
 use Rattle.formula.proofs.Places.{head-is, behind, reaches}
 use Rattle.formula.proofs.Coded.{listed, same-row, last-number}
 use Rattle.formula.proofs.Numbers.{carried, number-there, own-bytes, own-long, own-number, given-number}
-
-same-sort : (σ : Sort) → sameSort σ σ ≡ true
-same-sort = elim [ sort.Predicate ↦ refl | sort.Expression ↦ refl ]
 
 -- ---- the own bytes of a node
 module _ (s : List ℕ) (t limit l d : ℕ) (σ : Sort) (at : ℕ) (k : Code) (n : ℕ) (r : List ℕ)
@@ -41,17 +38,15 @@ module _ (s : List ℕ) (t limit l d : ℕ) (σ : Sort) (at : ℕ) (k : Code) (n
       let a : at < length s = omega arith in
       let b : at + ownLength k ≤ length s = omega arith in
       let f : (l ≡ 0 → ⊥) = λ z. omega arith in
-      let v : sameSort (sortOf (rowOf k .result)) σ ≡ true = ap (λ (τ : Sort). sameSort τ σ) (A .sort-is) ∙ same-sort σ in
       simp (
         lt-leb _ _ a,
         head-is s at _ _ e,
         listed k,
         same-row 0 k,
         le-ltb _ _ b,
-        v,
         number-found,
-        A .count-in,
-        A .index-in,
+        sound t d σ k n (A .faultless) .same-sort,
+        sound t d σ k n (A .faultless) .in-range,
         ne-eqb _ _ f,
         le-ltb _ _ q,
         last-number (numberOf k n) k 0,

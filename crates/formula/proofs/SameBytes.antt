@@ -13,7 +13,8 @@ use Rattle.formula.proofs.Accepted.{same-tree}
 use Rattle.formula.proofs.SameType.{same-test}
 use Rattle.formula.proofs.EqualLaws as EqualLaws
 use Rattle.formula.proofs.Choices.{never, and-left, and-right}
-use Rattle.formula.specs.Equal.{sameBytes, same, sameAt}
+use Rattle.formula.specs.Equal.{sameBytes, same}
+use Rattle.formula.specs.Mirror.Ranges.{sameAt}
 
 pub same-bytes-refl : (xs : List ℕ) → sameBytes xs xs ≡ true
 unfolding sameBytes

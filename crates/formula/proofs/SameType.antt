@@ -7,7 +7,7 @@ use lib.Dec.{eqb}
 use borrow.Author.Tests.{eqb-true, eq-eqb}
 use Rattle.formula.specs.Pick.{pick}
 use Rattle.formula.specs.Types.{Base-discrete, prop, int, boo, set, nats, nats1, Ty, Ty-discrete, base, pair, Kind, one, pairs, kindOf, eqTy}
-use Rattle.formula.specs.Columns.{bit}
+use Rattle.formula.specs.Mirror.PackedTable.{bit}
 use Rattle.formula.proofs.Choices.{never, and-left, and-right}
 
 -- two tests that follow from one another

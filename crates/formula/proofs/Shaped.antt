@@ -1,19 +1,17 @@
 -- A formed tree in two parts: what reading itself tests, and that each number fits into a word; and that more levels do no harm.
 use Prim.Native.Nat.{ℕ, _-_, _<_, _≤_, _^_}
 use mathlib.Core.Path.{_≡_}
-use mathlib.Core.Bool.{false}
+use mathlib.Core.Option.{none}
 use native.Mathlib.Omega.{arith}
 use Rattle.formula.specs.Codes.{Code}
-use Rattle.formula.specs.Rows.{rowOf, countOut, indexOut, operands, sortOf, sortOfKinds, sortOfRest}
+use Rattle.formula.specs.NodeTable.{rowOf, operands, sortOfKinds, sortOfRest}
 use Rattle.formula.specs.Tree.{Tree, node, Trees, nil, _▹_, size, numberOf}
-use Rattle.formula.specs.Formed.{inner, Formed, AllFormed}
+use Rattle.formula.specs.Formed.{faultIn, inner, Formed, AllFormed}
 use Rattle.formula.specs.declared.Sort.{Sort}
 
 -- `Allowed` without `word-in`
 pub record Tested (t d : ℕ) (σ : Sort) (k : Code) (n : ℕ) : Type 0 where
-  pub sort-is : sortOf (rowOf k .result) ≡ σ
-  pub count-in : countOut (rowOf k .number) (numberOf k n) ≡ false
-  pub index-in : indexOut (rowOf k .number) (numberOf k n) t d ≡ false
+  pub faultless : faultIn t d σ k n ≡ none
   pub operands-are : n ≡ operands (rowOf k .arity) (numberOf k n)
 
 -- `Formed` without `word-in`, ..
@@ -41,7 +39,7 @@ mutual
   pub formed : (x : Tree) (l t d : ℕ) (σ : Sort) → Shaped l t d σ x → WordsIn x → Formed l t d σ x
   formed (node k xs) l t d σ S w =
       let T = S .1 in
-      (S .0, record { sort-is = T .sort-is; count-in = T .count-in; index-in = T .index-in; word-in = w .0; operands-are = T .operands-are }, all-formed xs (l - 1) t _ _ _ (S .2) (w .1))
+      (S .0, record { faultless = T .faultless; word-in = w .0; operands-are = T .operands-are }, all-formed xs (l - 1) t _ _ _ (S .2) (w .1))
 
   pub all-formed : (xs : Trees) (l t d : ℕ) (σ ρ : Sort) → AllShaped l t d σ ρ xs → AllWordsIn xs → AllFormed l t d σ ρ xs
   all-formed nil l t d σ ρ S w = tt

@@ -6,10 +6,10 @@ use native.Mathlib.Omega.{arith}
 use lib.ListN.{length}
 use borrow.Author.Tests.{lt-leb, ne-eqb}
 use Rattle.formula.specs.Codes.{Code}
-use Rattle.formula.specs.Rows.{ownLength}
+use Rattle.formula.specs.NodeTable.{ownLength}
 use Rattle.formula.specs.Tree.{Tree, node, Trees, nil, _▹_, size}
-use Rattle.formula.specs.Columns.{rowAt, own, countOf}
-use Rattle.formula.specs.Bytes.{byteAt, ownByte, skipFrom, skipEnd}
+use Rattle.formula.specs.Mirror.PackedTable.{rowAt, own, countOf}
+use Rattle.formula.specs.Mirror.Bytes.{byteAt, ownByte, skipFrom, skipEnd}
 use Rattle.formula.proofs.Stands.{NodeAt, Stands, StandAll}
 use Rattle.formula.proofs.OwnIs.{columns-there, count-there}
 

@@ -6,7 +6,8 @@ use mathlib.Core.Option.{Option, some, none}
 use mathlib.Core.List.{List}
 use lib.ListN.{length, getD}
 use Rattle.formula.specs.Codes.{Code, codeAt}
-use Rattle.formula.specs.Rows.{Row, rowOf, ownLength, operands, indexOut}
+use Rattle.formula.specs.NodeTable.{Row, rowOf, ownLength, operands}
+use Rattle.formula.specs.NodeFault.{numberOut}
 use Rattle.formula.specs.Tree.{Tree, node, Trees, nil, _▹_, size, numberOf}
 use Rattle.formula.specs.Reading.{numberAt}
 
@@ -19,7 +20,7 @@ pub record NodeAt (s : List ℕ) (t p : ℕ) (k : Code) (n : ℕ) : Type 0 where
   pub number-is : numberOf k n ≡ numberAt (rowOf k .number) s (p + 1)
   pub operands-are : n ≡ operands (rowOf k .arity) (numberOf k n)
   pub bound : ℕ
-  pub index-in : indexOut (rowOf k .number) (numberOf k n) t bound ≡ false
+  pub number-in : numberOut (rowOf k .number) (numberOf k n) t bound ≡ false
 
 -- at most l levels, from p to q
 unfoldable mutual

@@ -1,7 +1,7 @@
 -- The cases of the columns, as laws from facts about numbers and from what the calls answered.
 use Prim.Native.Nat.{ℕ, zero, suc, _+_, _-_, _*_, _/_, _%_, _^_, _<_, _≤_}
 use mathlib.Core.Path.{_≡_, refl, sym, ap, _∙_, subst}
-use mathlib.Core.Bool.{Bool, true, false}
+use mathlib.Core.Bool.{Bool, true, false, _||_}
 use mathlib.Core.List.{List}
 use native.Mathlib.Numerals.{sub-one}
 use native.Mathlib.Omega.{arith}
@@ -13,22 +13,19 @@ use mir.Syntax.{w64}
 use mir.Val.{Fits}
 use Rattle.formula.specs.Pick.{pick}
 use Rattle.formula.specs.Codes.{codes}
-use Rattle.formula.specs.Columns.{table, rowAt, rootRow, field, countBad, indexBad, countOf, bindsOf, identType, typeBy}
-use Rattle.formula.specs.Bytes.{byteAt, ownByte, no, theOps, headRow, headAt, nextWant, unlike, badAfter, isPair, arePairs, typeAt, skipFrom, skipEnd, leafEnds, thenShape, shape, onHead, onRead, readBelow, noneBelow, listWith, readList, belowAt, endOf, readingOf, readWhole}
-use Rattle.formula.specs.declared.Cause.{Cause}
-use Rattle.formula.specs.declared.Cause.the-variants as cause
-use Rattle.formula.specs.declared.Refusal.{Refusal}
-use Rattle.formula.specs.declared.Ops.{Ops}
-use Rattle.formula.specs.declared.Head.{Head}
-use Rattle.formula.specs.declared.Head.the-variants as head
-use Rattle.formula.specs.declared.Got.{Got}
-use Rattle.formula.specs.declared.Answer.{Answer}
-use Rattle.formula.specs.declared.Answer.the-variants as answer
-use Rattle.formula.specs.declared.Ends.{Ends}
-use Rattle.formula.specs.declared.Reading.{Reading}
-use Rattle.formula.specs.declared.Reading.the-variants as reading
+use Rattle.formula.specs.NodeTable.{Number, nothing, word, count, variables}
+use Rattle.formula.specs.NodeFault.{numberOut, numberFault}
+use Rattle.formula.specs.Mirror.PackedTable.{table, rowAt, rootRow, field, numberIn, countOf, bindsOf, identType, typeBy}
+use Rattle.refusal.specs.declared.Cause.the-variants as cause
 use Rattle.formula.specs.declared.Sort.{Sort}
 use Rattle.formula.specs.declared.Sort.the-variants as sorts
+
+module _ (n lo hi : ℕ) where
+  pub outside-low : n < lo → true ≡ (ltb n lo || ltb hi n)
+  outside-low h = simp (lt-ltb _ _ h)
+
+  pub outside-high : lo ≤ n → ltb hi n ≡ (ltb n lo || ltb hi n)
+  outside-high h = simp (le-ltb _ _ h)
 
 pub field-is : (x k : ℕ) → x / 2 ^ k % 256 ≡ field x k
 unfolding field
@@ -36,47 +33,73 @@ field-is x k = refl
 
 -- ---- the table
 module _ (x n : ℕ) where
-  module _ (v : ℕ) (w : v ≡ n) where
-    pub countBad-low : (a : ℕ) → a ≡ field x 8 → v < a → true ≡ countBad x n
-    unfolding countBad
-    countBad-low a e h = rw (← w) (simp (← e, lt-ltb _ _ h))
+  module _ (k : ℕ) (e : k ≡ field x 24) where
+    pub countOf-n : (r : ℕ) → k % 4 ≡ 3 → r ≡ n → r ≡ countOf x n
+    unfolding countOf
+    countOf-n r h f = f ∙ simp (← e, eq-eqb _ _ h)
 
-    pub countBad-high : (a m : ℕ) → a ≡ field x 8 → a ≤ v → m ≡ field x 16 → 2 < m → ltb m v ≡ countBad x n
-    unfolding countBad
-    countBad-high a m e h f k = rw (← w) (simp (← e, le-ltb _ _ h, ← f, lt-ltb _ _ k))
+    pub countOf-fixed : (k % 4 ≡ 3 → ⊥) → k % 4 ≡ countOf x n
+    unfolding countOf
+    countOf-fixed h = simp (← e, ne-eqb _ _ h)
 
-    pub countBad-none : (a m : ℕ) → a ≡ field x 8 → a ≤ v → m ≡ field x 16 → m ≤ 2 → false ≡ countBad x n
-    unfolding countBad
-    countBad-none a m e h f k = rw (← w) (simp (← e, le-ltb _ _ h, ← f, le-ltb _ _ k))
+    pub bindsOf-none : k / 4 ≡ 0 → 0 ≡ bindsOf x n
+    unfolding bindsOf
+    bindsOf-none h = simp (← e, eq-eqb _ _ h)
 
-  pub countOf-n : (k r : ℕ) → k ≡ field x 24 → k ≡ 3 → r ≡ n → r ≡ countOf x n
-  unfolding countOf
-  countOf-n k r e h f = f ∙ simp (← e, eq-eqb _ _ h)
+    pub bindsOf-n : (k / 4 ≡ 0 → ⊥) → n ≡ bindsOf x n
+    unfolding bindsOf
+    bindsOf-n h = simp (← e, ne-eqb _ _ h)
 
-  pub countOf-fixed : (k : ℕ) → k ≡ field x 24 → (k ≡ 3 → ⊥) → k ≡ countOf x n
-  unfolding countOf
-  countOf-fixed k e h = simp (← e, ne-eqb _ _ h)
+  -- the number after the code is judged by its limit: 2 none, 0 the identifiers, 1 the variables bound, else a count
+  module _ (m : ℕ) (e : m ≡ field x 16) where
+    pub out-none : (t d : ℕ) → m ≡ 2 → false ≡ numberOut (numberIn x) n t d
+    unfolding numberIn
+    out-none t d h = go (eqb (field x 0) 8) refl
+      where
+        go : (a : Bool) → eqb (field x 0) 8 ≡ a → false ≡ numberOut (numberIn x) n t d
+        go true q = simp (← e, h, q)
+        go false q = simp (← e, h, q)
 
-  pub bindsOf-n : (m : ℕ) → m ≡ field x 16 → m ≡ 8 → n ≡ bindsOf x n
-  unfolding bindsOf
-  bindsOf-n m e h = simp (← e, eq-eqb _ _ h)
+    pub out-identifier : (t d v : ℕ) → v ≡ n → m ≡ 0 → leb t v ≡ numberOut (numberIn x) n t d
+    unfolding numberIn
+    out-identifier t d v w h = rw w (simp (← e, h))
 
-  pub bindsOf-none : (m : ℕ) → m ≡ field x 16 → (m ≡ 8 → ⊥) → 0 ≡ bindsOf x n
-  unfolding bindsOf
-  bindsOf-none m e h = simp (← e, ne-eqb _ _ h)
+    pub out-index : (t d v : ℕ) → v ≡ n → m ≡ 1 → leb d v ≡ numberOut (numberIn x) n t d
+    unfolding numberIn
+    out-index t d v w h = rw w (simp (← e, h))
 
-  module _ (t d m v : ℕ) (w : v ≡ n) (e : m ≡ field x 16) where
-    pub indexBad-t : m ≡ 0 → leb t v ≡ indexBad x n t d
-    unfolding indexBad
-    indexBad-t h = rw (← w) (simp (← e, eq-eqb _ _ h))
+    module _ (a : m ≡ 2 → ⊥) (b : m ≡ 0 → ⊥) (c : m ≡ 1 → ⊥) where
+      counted : (v : Bool) → eqb (field x 24 / 4) 0 ≡ v → numberIn x ≡ pick v (count (field x 8) m) (variables (field x 8) m)
+      unfolding numberIn
+      counted v q = rw q (simp (← e, ne-eqb _ _ a, ne-eqb _ _ b, ne-eqb _ _ c))
 
-    pub indexBad-d : (m ≡ 0 → ⊥) → m ≡ 1 → leb d v ≡ indexBad x n t d
-    unfolding indexBad
-    indexBad-d h k = rw (← w) (simp (← e, ne-eqb _ _ h, eq-eqb _ _ k))
+      pub out-count : (t d v l : ℕ) (z : Bool) → v ≡ n → l ≡ field x 8 → z ≡ (ltb v l || ltb m v) → z ≡ numberOut (numberIn x) n t d
+      out-count t d v l z w g k = k ∙ rw (w, g) (go (eqb (field x 24 / 4) 0) refl)
+        where
+          go : (v : Bool) → eqb (field x 24 / 4) 0 ≡ v → (ltb n (field x 8) || ltb m n) ≡ numberOut (numberIn x) n t d
+          go true q = rw (counted true q) refl
+          go false q = rw (counted false q) refl
 
-    pub indexBad-none : (m ≡ 0 → ⊥) → (m ≡ 1 → ⊥) → false ≡ indexBad x n t d
-    unfolding indexBad
-    indexBad-none h k = simp (← e, ne-eqb _ _ h, ne-eqb _ _ k)
+    pub cause-count : 3 ≤ m → cause.Count ≡ numberFault (numberIn x) .cause
+    cause-count h = go (eqb (field x 24 / 4) 0) refl
+      where
+        is : (v : Bool) → eqb (field x 24 / 4) 0 ≡ v → numberIn x ≡ pick v (count (field x 8) m) (variables (field x 8) m)
+        is = counted (λ z. omega (arith, z)) (λ z. omega (arith, z)) (λ z. omega (arith, z))
+
+        go : (v : Bool) → eqb (field x 24 / 4) 0 ≡ v → cause.Count ≡ numberFault (numberIn x) .cause
+        go true q = rw (is true q) refl
+        go false q = rw (is false q) refl
+
+  pub cause-index : (m : ℕ) → m ≡ field x 16 → m < 3 → cause.Index ≡ numberFault (numberIn x) .cause
+  unfolding numberIn
+  cause-index zero e h = simp (← e)
+  cause-index (suc zero) e h = simp (← e)
+  cause-index (suc (suc zero)) e h = go (eqb (field x 0) 8) refl
+    where
+      go : (a : Bool) → eqb (field x 0) 8 ≡ a → cause.Index ≡ numberFault (numberIn x) .cause
+      go true q = simp (← e, q)
+      go false q = simp (← e, q)
+  cause-index (suc (suc (suc m))) e h = absurd (omega (arith, h))
 
 module _ (types : List ℕ) (n : ℕ) where
   pub identType-out : length types ≤ n → 0 ≡ identType types n
@@ -121,4 +144,4 @@ module _ (σ : Sort) where
   unfolding rootRow
   root-expression e = rw e refl
 
-pub ruleset columns = (root-predicate, root-expression, field-is, countBad-low, countBad-high, countBad-none, countOf-n, countOf-fixed, bindsOf-n, bindsOf-none, indexBad-t, indexBad-d, indexBad-none, identType-out, identType-int, identType-bool, identType-set, typeBy-ident, typeBy-res, rowAt-in, rowAt-out)
+pub ruleset columns = (root-predicate, root-expression, field-is, countOf-n, countOf-fixed, bindsOf-n, bindsOf-none, out-none, out-identifier, out-index, out-count, cause-count, cause-index, identType-out, identType-int, identType-bool, identType-set, typeBy-ident, typeBy-res, rowAt-in, rowAt-out)

@@ -7,10 +7,10 @@ use mathlib.Core.Option.{Option, some, none}
 use mathlib.Core.Logic.{_↔_}
 use lib.ListN.{length}
 use Rattle.formula.specs.Types.{Ty, Want, among, same, Rest, may, mayAll, wantNext}
-use Rattle.formula.specs.Rows.{rowOf, ownLength}
+use Rattle.formula.specs.NodeTable.{rowOf, ownLength}
 use Rattle.formula.specs.Tree.{Tree, node, Trees, nil, _▹_, size, numberOf, encode}
 use Rattle.formula.specs.Formed.{Formed, AllFormed, inner}
-use Rattle.formula.specs.Wrong.{resultOf, headType, headTypes, right, firstWrong, firstWrongIn, wellMade, typeOf, typesIn}
+use Rattle.formula.specs.Typing.{resultOf, headType, headTypes, right, firstWrong, firstWrongIn, wellMade, typeOf, typesIn}
 use Rattle.formula.specs.declared.Sort.{Sort}
 use Rattle.formula.proofs.Choices.{never, and-left, and-right, pick-none, pick-some, orElse-none}
 use Rattle.formula.proofs.NodeType.{node-type, allowed-made}

@@ -10,9 +10,8 @@ use lib.Bits.{bitAnd}
 use borrow.Author.Tests.{not-true}
 use Rattle.formula.specs.Codes.{Code, codes, codeAt}
 use Rattle.formula.specs.Types.{Base, prop, int, boo, set, nats, nats1, Ty, base, pair, Kind, one, pairs, kindOf, eqKind, among?, Want, among, same, Rest, these, asFirst}
-use Rattle.formula.specs.Rows.{Row, rowOf, Arity, fixed, counted, operands, sortOf, sortOfTy, sortOfKinds, sortOfRest}
-use Rattle.formula.specs.Columns.{bit, mask, restMask, sortMask}
-use Rattle.formula.specs.Reading.{sameSort}
+use Rattle.formula.specs.NodeTable.{Row, rowOf, Arity, fixed, counted, operands, sortOf, sortOfTy, sortOfKinds, sortOfRest, sameSort}
+use Rattle.formula.specs.Mirror.PackedTable.{bit, mask, restMask, sortMask}
 use Rattle.formula.specs.declared.Sort.{Sort}
 use Rattle.formula.specs.declared.Sort.the-variants as sorts
 use Rattle.formula.proofs.Choices.{never, and-left, and-right, agree, agree-is}

@@ -11,9 +11,9 @@ use lib.Dec.{eqb}
 use borrow.Author.Tests.{eqb-true}
 use Rattle.formula.specs.Codes.{Code, con, ident, bound, lit, rel, fun, many, qu, codes, withNumber}
 use Rattle.formula.specs.Types.{Ty}
-use Rattle.formula.specs.Rows.{rowOf, width, ownLength}
+use Rattle.formula.specs.NodeTable.{rowOf, width, ownLength}
 use Rattle.formula.specs.Tree.{Tree, node, Trees, nil, _▹_, numberBytes, encode, encodes}
-use Rattle.formula.specs.Wrong.{headTypes, right, firstWrong, firstWrongIn}
+use Rattle.formula.specs.Typing.{headTypes, right, firstWrong, firstWrongIn}
 use Rattle.formula.proofs.Choices.{pick-none, pick-cases, orElse-none, orElse-cases}
 use Rattle.formula.proofs.Numbers.{own-long}
 

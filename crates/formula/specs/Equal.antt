@@ -1,11 +1,10 @@
--- Formulas are compared by their bytes: two formulas, two ranges of bytes, and the range where a formula stands.
-use Prim.Native.Nat.{ℕ, zero, suc, _+_, _-_, _≤_}
+-- Formulas are compared by their bytes; the range of bytes where a formula stands.
+use Prim.Native.Nat.{ℕ, _-_, _≤_}
 use mathlib.Core.Path.{_≡_}
 use mathlib.Core.List.{List, [], _∷_}
 use mathlib.Core.Bool.{Bool, true, false, _&&_}
-use lib.ListN.{length, getD, take, drop}
+use lib.ListN.{length, take, drop}
 use lib.Dec.{eqb}
-use Rattle.formula.specs.Pick.{pick}
 use Rattle.formula.specs.Tree.{Tree, encode}
 
 unfoldable pub sameBytes : List ℕ → List ℕ → Bool
@@ -22,9 +21,3 @@ pub record Range (x : List ℕ) (a e : ℕ) (y : Tree) : Type 0 where
   pub from-to : a ≤ e
   pub inside : e ≤ length x
   pub bytes-are : take (e - a) (drop a x) ≡ encode y
-
--- the n bytes from a on in s are those from b on in t
-
-unfoldable pub sameAt : ℕ → List ℕ → ℕ → List ℕ → ℕ → Bool
-sameAt zero s a t b = true
-sameAt (suc n) s a t b = pick (eqb (getD s a 0) (getD t b 0)) (sameAt n s (a + 1) t (b + 1)) false

@@ -1,17 +1,21 @@
 -- A tree that the table allows: of the sort expected, in scope, with counts in range, of at most l levels.
 use Prim.Native.Nat.{ℕ, zero, suc, _+_, _-_, _<_, _≤_, _^_}
 use mathlib.Core.Path.{_≡_}
-use mathlib.Core.Bool.{Bool, true, false}
+use mathlib.Core.Bool.{false}
+use mathlib.Core.Option.{Option, none}
 use Rattle.formula.specs.Codes.{Code}
-use Rattle.formula.specs.Rows.{Row, rowOf, countOut, indexOut, operands, declares, sortOf, sortOfKinds, sortOfRest}
+use Rattle.formula.specs.NodeTable.{Row, rowOf, operands, declares, sortOfKinds, sortOfRest}
+use Rattle.formula.specs.NodeFault.{Fault, otherSort, numberOut, nodeFault}
 use Rattle.formula.specs.Tree.{Tree, node, Trees, nil, _▹_, size, numberOf}
 use Rattle.formula.specs.declared.Sort.{Sort}
 
+-- what is wrong with a node of a tree, which has n operands and is neither cut off nor too deep nor too long
+abbrev pub faultIn : (t d : ℕ) → Sort → Code → ℕ → Option Fault
+faultIn t d σ k n = nodeFault false (otherSort σ k) (numberOut (rowOf k .number) (numberOf k n) t d) false false (rowOf k .number)
+
 -- one node with n operands, under t identifiers and d bound variables
 pub record Allowed (t d : ℕ) (σ : Sort) (k : Code) (n : ℕ) : Type 0 where
-  pub sort-is : sortOf (rowOf k .result) ≡ σ
-  pub count-in : countOut (rowOf k .number) (numberOf k n) ≡ false
-  pub index-in : indexOut (rowOf k .number) (numberOf k n) t d ≡ false
+  pub faultless : faultIn t d σ k n ≡ none
   pub word-in : numberOf k n < 2 ^ 64
   pub operands-are : n ≡ operands (rowOf k .arity) (numberOf k n)
 

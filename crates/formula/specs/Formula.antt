@@ -7,11 +7,11 @@ use lib.ListN.{length}
 use Rattle.formula.specs.Types.{Ty, typesOf}
 use Rattle.formula.specs.Tree.{Tree, encode}
 use Rattle.formula.specs.Formed.{Formed}
-use Rattle.formula.specs.Wrong.{firstWrong, typeOf}
-use Rattle.formula.specs.Refusal.{saidOf}
+use Rattle.formula.specs.Typing.{firstWrong, typeOf}
+use Rattle.refusal.specs.Refusal.{saidOf}
 use Rattle.formula.specs.Reading.{Parsed, got, not-got, formulaAt}
 use Rattle.formula.specs.declared.Sort.{Sort}
-use Rattle.formula.specs.declared.Cause.the-variants as cause
+use Rattle.refusal.specs.declared.Cause.the-variants as cause
 use Rattle.formula.specs.declared.Reading.{Reading}
 use Rattle.formula.specs.declared.Reading.the-variants as reading
 use Rattle.formula.specs.declared.Outcome.{Outcome}

@@ -1,13 +1,12 @@
 pub mod Pick
 pub mod Codes
 pub mod Types
-pub mod Rows
+pub mod NodeTable
+pub mod NodeFault
 pub mod Tree
 pub mod Formed
-pub mod Wrong
-pub mod Refusal
+pub mod Typing
 pub mod Reading
 pub mod Formula
-pub mod Columns
-pub mod Bytes
 pub mod Equal
+pub mod Mirror

@@ -1,12 +1,8 @@
 -- A choice by a test, the first of two finds, and an entry of a list with gaps.
 use Prim.Native.Nat.{ℕ, zero, suc}
 use mathlib.Core.List.{List, [], _∷_}
-use mathlib.Core.Bool.{Bool, true, false}
 use mathlib.Core.Option.{Option, some, none}
-
-abbrev pub pick : {A : Type 0} → Bool → A → A → A
-pick true a b = a
-pick false a b = b
+pub use Rattle.refusal.specs.Pick.{pick}
 
 abbrev pub orElse : {A : Type 0} → Option A → Option A → Option A
 orElse none b = b

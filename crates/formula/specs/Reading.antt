@@ -1,34 +1,32 @@
 -- Document 01: "Reading goes left to right. Within a formula the first of 1, 7, 9 in reading order is answered, the lower number at one node."
 use Prim.Native.Nat.{ℕ, zero, suc, _+_, _*_}
 use mathlib.Core.List.{List, [], _∷_}
-use mathlib.Core.Bool.{Bool, true, false, not}
 use mathlib.Core.Option.{Option, some, none}
 use lib.ListN.{length, getD, take, drop}
 use lib.Dec.{ltb, leb, eqb}
 use Rattle.formula.specs.Pick.{pick}
 use Rattle.formula.specs.Codes.{Code, codeAt, withNumber}
-use Rattle.formula.specs.Rows.{Row, rowOf, Number, nothing, identifier, index, word, count, variables, ownLength, countOut, indexOut, operands, sortOf, sortOfKinds, sortOfRest}
+use Rattle.formula.specs.NodeTable.{Row, rowOf, Number, nothing, identifier, index, word, count, variables, ownLength, operands, sortOfKinds, sortOfRest}
+use Rattle.formula.specs.NodeFault.{Fault, otherSort, numberOut, nodeFault}
 use Rattle.formula.specs.Tree.{Tree, node, Trees, nil, _▹_}
 use Rattle.formula.specs.Formed.{inner}
 use Rattle.formula.specs.declared.Sort.{Sort}
-use Rattle.formula.specs.declared.Sort.the-variants as sort
-use Rattle.formula.specs.declared.Cause.{Cause}
-use Rattle.formula.specs.declared.Cause.the-variants as cause
+use Rattle.refusal.specs.declared.Cause.{Cause}
+use Rattle.refusal.specs.declared.Cause.the-variants as cause
 
--- what was read and where it ends, or why not and the first byte of the node
+-- what was read and where it ends, or why not and the place
 pub data Parsed (A : Type 0) : Type 0 where
   got : A → ℕ → Parsed A
   not-got : Cause → ℕ → Parsed A
 
+-- a fault of the node at `at` ends the reading there
+abbrev pub onFault : {A : Type 0} → ℕ → Option Fault → Parsed A → Parsed A
+onFault at none z = z
+onFault at (some f) z = not-got (f .cause) (at + f .offset)
+
 abbrev pub onGot : {A B : Type 0} → Parsed A → (A → ℕ → Parsed B) → Parsed B
 onGot (got a p) f = f a p
 onGot (not-got c p) f = not-got c p
-
-abbrev pub sameSort : Sort → Sort → Bool
-sameSort sort.Predicate sort.Predicate = true
-sameSort sort.Predicate sort.Expression = false
-sameSort sort.Expression sort.Predicate = false
-sameSort sort.Expression sort.Expression = true
 
 abbrev pub ofLE : List ℕ → ℕ
 ofLE [] = 0
@@ -40,28 +38,22 @@ numberAt nothing s i = 0
 numberAt identifier s i = getD s i 0
 numberAt index s i = getD s i 0
 numberAt word s i = ofLE (take 8 (drop i s))
-numberAt (count lo) s i = getD s i 0
-numberAt variables s i = getD s i 0
+numberAt (count lo hi) s i = getD s i 0
+numberAt (variables lo hi) s i = getD s i 0
 
 -- ---- the formula's bytes end before `limit`; t identifiers
 module _ (s : List ℕ) (t limit : ℕ) where
   -- the own bytes of a node at `at` whose byte stands for the code, with l levels left and d variables bound outside:
-  -- 1 bytes end inside it; 7 unknown code, code of the other sort, count out of range, k ≥ t or i not enclosed; 9 level 33, or past the limit;
-  -- else its code and the number of its operands
+  -- what is wrong with them, or its code and the number of its operands
   abbrev pub ownBytes : (l d : ℕ) → Sort → ℕ → Option Code → Parsed Code
   ownBytes l d σ at none = not-got cause.Code at
   ownBytes l d σ at (some k) =
       let n = numberAt (rowOf k .number) s (at + 1) in
-      pick (ltb (length s) (at + ownLength k)) (not-got cause.Short at)
-      (pick (not (sameSort (sortOf (rowOf k .result)) σ)) (not-got cause.Code at)
-      (pick (countOut (rowOf k .number) n) (not-got cause.Count at)
-      (pick (indexOut (rowOf k .number) n t d) (not-got cause.Index at)
-      (pick (eqb l 0) (not-got cause.Deep at)
-      (pick (ltb limit (at + ownLength k)) (not-got cause.Long at)
-      (got (withNumber k n) (operands (rowOf k .arity) n)))))))
+      onFault at (nodeFault (ltb (length s) (at + ownLength k)) (otherSort σ k) (numberOut (rowOf k .number) n t d) (eqb l 0) (ltb limit (at + ownLength k)) (rowOf k .number))
+      (got (withNumber k n) (operands (rowOf k .arity) n))
 
   unfoldable pub nodeAt : (l d : ℕ) → Sort → ℕ → Parsed Code
-  nodeAt l d σ at = pick (leb (length s) at) (not-got cause.Short at) (ownBytes l d σ at (codeAt (getD s at 0)))
+  nodeAt l d σ at = pick (leb (length s) at) (not-got cause.Length at) (ownBytes l d σ at (codeAt (getD s at 0)))
 
 -- n operands one after the other, the first of the sort σ and the others of the sort ρ, each read by f
 unfoldable pub operandsBy : (Sort → ℕ → Parsed Tree) → ℕ → Sort → Sort → ℕ → Parsed Trees

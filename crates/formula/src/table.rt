@@ -1,12 +1,17 @@
 // The node table and what a row of it says.
 ghost use mathlib.Core.Path.{_≡_};
 ghost use Prim.Native.Nat.{ℕ, _<_};
-ghost use Rattle.formula.specs.Columns.{table, rowAt, field, countBad, indexBad, countOf, bindsOf, identType, typeBy, rootRow};
+ghost use mathlib.Core.Bool.{_||_};
+ghost use lib.Dec.{ltb};
+ghost use Rattle.formula.specs.NodeFault.{numberOut, numberFault};
+ghost use Rattle.formula.specs.Mirror.PackedTable.{table, rowAt, field, numberIn, countOf, bindsOf, identType, typeBy, rootRow};
 use super::Sort;
+use refusal::Cause;
 
-// Document 01's node codes, "one fixed table", indexed by code. A row has a byte for each, from the lowest on: own bytes,
-// least count, greatest count (or which limit), operands, kinds of the first and of the other operands, kind, sort.
-pub const TABLE: [u64; 51] = [
+// The node codes as one fixed table, indexed by code. A row has a byte for each, from the lowest on: own bytes, least count,
+// greatest count (or which limit), operands (and 4 more if the node binds variables), kinds of the first and of the other
+// operands, kind, sort.
+const TABLE: [u64; 51] = [
     0x0000000000000000,
     0x0101000000020000,
     0x0101000000020000,
@@ -15,8 +20,8 @@ pub const TABLE: [u64; 51] = [
     0x0101010103200201,
     0x0101010102020000,
     0x0101010102020000,
-    0x0101010101080101,
-    0x0101010101080101,
+    0x0101010105080101,
+    0x0101010105080101,
     0x0000000000000000,
     0x0000000000000000,
     0x0000000000000000,
@@ -55,10 +60,17 @@ pub const TABLE: [u64; 51] = [
     0x7E08020203200101,
     0x7E04010101020000,
     0x7E404E4E02020000,
-    0x7E08020102080101,
+    0x7E08020106080101,
     0x7E04000000020000,
     0x7E04000000020000,
 ];
+
+// The table, to be made once and lent.
+pub fn node_table() -> [u64; 51]
+    ensures { λ r. ⌜ r ≡ table ⌝ }
+{
+    TABLE
+}
 
 // A byte as a number.
 pub fn wide(x: u8) -> usize
@@ -85,28 +97,37 @@ pub fn field_of(x: u64, k: u64) -> usize
     ((x >> k) % 256) as usize
 }
 
-// Whether the count n is out of range.
-pub fn count_bad(x: u64, b: u8) -> bool
-    ensures { λ r. ⌜ r ≡ countBad x b ⌝ }
+// Whether a count is out of its range.
+fn is_outside(n: usize, lo: usize, hi: usize) -> bool
+    ensures { λ r. ⌜ r ≡ (ltb n lo || ltb hi n) ⌝ }
 {
-    let n = wide(b);
-    if n < field_of(x, 8) {
-        return true;
-    }
-    let m = field_of(x, 16);
-    if 2 < m { m < n } else { false }
+    if n < lo { true } else { hi < n }
 }
 
-// Whether n is no identifier of t, or no variable of the d enclosed.
-pub fn index_bad(x: u64, b: u8, t: usize, d: usize) -> bool
-    ensures { λ r. ⌜ r ≡ indexBad x b t d ⌝ }
+// Whether the number after the code is out of range: no identifier of t, no variable of the d enclosed, or a wrong count.
+pub fn is_out(x: u64, b: u8, t: usize, d: usize) -> bool
+    ensures { λ r. ⌜ r ≡ numberOut (numberIn x) b t d ⌝ }
 {
     let n = wide(b);
     let m = field_of(x, 16);
+    if m == 2 {
+        return false;
+    }
     if m == 0 {
         return t <= n;
     }
-    if m == 1 { d <= n } else { false }
+    if m == 1 {
+        return d <= n;
+    }
+    is_outside(n, field_of(x, 8), m)
+}
+
+// Why a number out of range is refused.
+pub fn number_cause(x: u64) -> Cause
+    ensures { λ r. ⌜ r ≡ numberFault (numberIn x) .cause ⌝ }
+{
+    let m = field_of(x, 16);
+    if m < 3 { Cause::Index } else { Cause::Count }
 }
 
 // How many operands follow.
@@ -114,7 +135,7 @@ pub fn count_of(x: u64, n: u8) -> usize
     ensures { λ r. ⌜ r ≡ countOf x n ⌝ }
     ensures { λ r. ⌜ r < 256 ⌝ }
 {
-    let k = field_of(x, 24);
+    let k = field_of(x, 24) % 4;
     if k == 3 { wide(n) } else { k }
 }
 
@@ -122,8 +143,8 @@ pub fn count_of(x: u64, n: u8) -> usize
 pub fn binds_of(x: u64, n: u8) -> u8
     ensures { λ r. ⌜ r ≡ bindsOf x n ⌝ }
 {
-    let m = field_of(x, 16);
-    if m == 8 { n } else { 0 }
+    let m = field_of(x, 24) / 4;
+    if m == 0 { 0 } else { n }
 }
 
 // The kind of the identifier n, as a bit.

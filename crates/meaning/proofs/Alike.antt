@@ -10,7 +10,7 @@ use Rattle.formula.specs.Codes.{Rel, Fun, Many, Bind, Code, con, ident, bound, 
 use Rattle.formula.specs.Types as T
 use Rattle.formula.specs.Tree.{Tree}
 use Rattle.formula.proofs.Choices.{none-some}
-use Rattle.meaning.specs.Steps.{_>>=_, nth, each, nullary, unary, binary}
+use Rattle.meaning.specs.Defined.{_>>=_, nth, each, nullary, unary, binary}
 use Rattle.meaning.specs.Value.{Val, truth, int, boo, set, nats, nats1, pair, tyOf, asTruth, asInt, asBoo, asSet, asPair, asData}
 use Rattle.meaning.specs.Sets.{sameSet, inAll}
 use Rattle.meaning.specs.Operators.{constant, equal, memberOf, relation, function, several, unions, inters, allTrue, someTrue}

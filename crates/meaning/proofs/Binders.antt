@@ -14,8 +14,8 @@ use Rattle.formula.specs.Codes.{bound, qu, all, ex, compr}
 use Rattle.formula.specs.Types as T
 use Rattle.formula.specs.Types.{base, typesOf}
 use Rattle.formula.specs.Tree.{Tree, node, nil, _▹_}
-use Rattle.formula.specs.Wrong.{typeOf}
-use Rattle.meaning.specs.Steps.{_>>=_, nth, each}
+use Rattle.formula.specs.Typing.{typeOf}
+use Rattle.meaning.specs.Defined.{_>>=_, nth, each}
 use Rattle.meaning.specs.Value.{Val, truth, int, set, asTruth, asInt}
 use Rattle.meaning.specs.Sets.{member}
 use Rattle.meaning.specs.Operators.{allTrue, someTrue}

@@ -11,20 +11,20 @@ use borrow.Author.Tests.{leb-false}
 use Rattle.formula.specs.Codes as C
 use Rattle.formula.specs.Codes.{Bind, Code, con, ident, bound, lit, rel, fun, many, qu}
 use Rattle.formula.specs.Types.{Ty, among, Want, Rest, may, mayAll, wantNext, typesOf}
-use Rattle.formula.specs.Rows.{rowOf}
+use Rattle.formula.specs.NodeTable.{rowOf}
 use Rattle.formula.specs.Tree.{Tree, numberOf}
 use Rattle.formula.specs.Formed.{inner}
-use Rattle.formula.specs.Wrong.{resultOf, right, wellMade, typeOf}
+use Rattle.formula.specs.Typing.{resultOf, right, wellMade, typeOf}
 use Rattle.formula.proofs.Choices.{and-left, and-right, pick-some}
 use Rattle.formula.proofs.Typed.{may-some}
-use Rattle.meaning.specs.Steps.{_>>=_, nth, each, concatMap}
+use Rattle.meaning.specs.Defined.{_>>=_, nth, each, concatMap}
 use Rattle.meaning.specs.Value.{truth, set, asTruth}
 use Rattle.meaning.specs.Operators.{relation, function, several, allTrue, someTrue}
 use Rattle.meaning.specs.Valuation.{interval, Valuation}
 use Rattle.meaning.specs.Meaning.{Sense, choices, truthAt, guarded, collect, binder, values, sense, eval}
 use Rattle.meaning.proofs.Lists.{All, All2, All-map, All2-length}
 use Rattle.meaning.proofs.Relate.{relate, typing, typed-fold}
-use Rattle.meaning.proofs.NodeRows.{made-index, rel-row, fun-row, many-row}
+use Rattle.meaning.proofs.NodeRows.{made-number, rel-row, fun-row, many-row}
 use Rattle.meaning.proofs.Has.{choices-length}
 
 -- ---- choices above a longer list
@@ -98,7 +98,7 @@ module _ {types : List ℕ} (ν : Valuation types) where
   node-local d (con c) ss m a ρ ρ₁ ρ₂ l = refl
   node-local d (ident k) ss m a ρ ρ₁ ρ₂ l = refl
   node-local d (bound i) ss m a ρ ρ₁ ρ₂ l =
-      let h = leb-false d i (made-index Γ d (bound i) (length ss) m) in
+      let h = leb-false d i (made-number Γ d (bound i) (length ss) m) in
       rw (nth-append ρ ρ₁ ρ₂ i (omega arith))
   node-local d (lit w) ss m a ρ ρ₁ ρ₂ l = refl
   node-local d (rel r) ss m a ρ ρ₁ ρ₂ l = ap (λ o. o >>= relation r) (values-local _ ss a ρ ρ₁ ρ₂ (omega (arith, rel-row r 0 .2)))

@@ -9,27 +9,28 @@ use lib.ListN.{length}
 use borrow.Author.Tests.{leb-false, lt-leb, eq-eqb}
 use Rattle.formula.specs.Codes.{Code}
 use Rattle.formula.specs.Types.{Ty, among, Want, Rest, may, mayAll, wantNext}
-use Rattle.formula.specs.Rows.{rowOf, Number, nothing, identifier, index, word, count, variables, indexOut}
+use Rattle.formula.specs.NodeTable.{rowOf, Number, nothing, identifier, index, word, count, variables}
+use Rattle.formula.specs.NodeFault.{numberOut}
 use Rattle.formula.specs.Tree.{Tree, numberOf}
 use Rattle.formula.specs.Formed.{inner}
-use Rattle.formula.specs.Wrong.{resultOf, right, wellMade, typeOf}
+use Rattle.formula.specs.Typing.{resultOf, right, wellMade, typeOf}
 use Rattle.formula.proofs.Choices.{and-left, and-right, pick-some}
 use Rattle.formula.proofs.Typed.{may-some}
 use Rattle.meaning.proofs.Lists.{All2, All2-length}
 use Rattle.meaning.proofs.Relate.{relate, typing, typed-fold}
-use Rattle.meaning.proofs.NodeRows.{made-arity, made-count, made-index}
+use Rattle.meaning.proofs.NodeRows.{made-arity, made-number}
 
-index-deeper : (f : Number) (m t d e : ℕ) → d ≤ e → indexOut f m t d ≡ false → indexOut f m t e ≡ false
-index-deeper nothing m t d e h q = q
-index-deeper identifier m t d e h q = q
-index-deeper index m t d e h q = let b = leb-false d m q in lt-leb e m (omega arith)
-index-deeper word m t d e h q = q
-index-deeper (count lo) m t d e h q = q
-index-deeper variables m t d e h q = q
+number-deeper : (f : Number) (m t d e : ℕ) → d ≤ e → numberOut f m t d ≡ false → numberOut f m t e ≡ false
+number-deeper nothing m t d e h q = q
+number-deeper identifier m t d e h q = q
+number-deeper index m t d e h q = let b = leb-false d m q in lt-leb e m (omega arith)
+number-deeper word m t d e h q = q
+number-deeper (count lo hi) m t d e h q = q
+number-deeper (variables lo hi) m t d e h q = q
 
 made-deeper : (Γ : List Ty) (k : Code) (n d e : ℕ) → d ≤ e → wellMade Γ d k n ≡ true → wellMade Γ e k n ≡ true
 made-deeper Γ k n d e h m =
-    rw (eq-eqb n _ (made-arity Γ d k n m), made-count Γ d k n m, index-deeper (rowOf k .number) (numberOf k n) (length Γ) d e h (made-index Γ d k n m))
+    rw (eq-eqb n _ (made-arity Γ d k n m), number-deeper (rowOf k .number) (numberOf k n) (length Γ) d e h (made-number Γ d k n m))
 
 module _ (Γ : List Ty) where
   abbrev Up : (ℕ → Option Ty) → (ℕ → Option Ty) → Type 0

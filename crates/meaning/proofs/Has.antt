@@ -12,14 +12,14 @@ use Rattle.formula.specs.Codes as C
 use Rattle.formula.specs.Codes.{Con, Rel, Fun, Many, Bind, Code, con, ident, bound, lit, rel, fun, many, qu}
 use Rattle.formula.specs.Types as T
 use Rattle.formula.specs.Types.{Ty, base, one, kindOf, among?, among, typeAt, typesOf}
-use Rattle.formula.specs.Rows.{rowOf}
+use Rattle.formula.specs.NodeTable.{rowOf}
 use Rattle.formula.specs.Tree.{Tree, node, Trees, nil, _▹_, size, numberOf}
 use Rattle.formula.specs.Formed.{inner}
-use Rattle.formula.specs.Wrong.{resultOf, right, wellMade, typeOf, typesIn}
+use Rattle.formula.specs.Typing.{resultOf, right, wellMade, typeOf, typesIn}
 use Rattle.formula.proofs.Choices.{none-some, and-left, and-right, pick-some}
 use Rattle.formula.proofs.DataType.{typesOf-data}
 use Rattle.formula.proofs.GoodType.{goods, typed-goods}
-use Rattle.meaning.specs.Steps.{_>>=_, nth, each}
+use Rattle.meaning.specs.Defined.{_>>=_, nth, each}
 use Rattle.meaning.specs.Value.{Val, truth, int, set, tyOf}
 use Rattle.meaning.specs.Operators.{constant, signed, relation, function, several, allTrue, someTrue}
 use Rattle.meaning.specs.Fold.{fold, folds}
@@ -27,7 +27,7 @@ use Rattle.meaning.specs.Valuation.{interval, Valuation}
 use Rattle.meaning.specs.Meaning.{Sense, choices, truthAt, intAt, guarded, collect, binder, values, sense, eval, Meaning}
 use Rattle.meaning.proofs.Lists.{All, All2, All-map, All-concat, some-inj, two-steps, each-some, nth-there}
 use Rattle.meaning.proofs.Relate.{folds-size}
-use Rattle.meaning.proofs.NodeRows.{made-arity, made-count, made-index, con-arity, con-result, rel-row, fun-row, many-row, many-count}
+use Rattle.meaning.proofs.NodeRows.{made-arity, made-number, con-arity, con-result, rel-row, fun-row, many-row, many-count}
 use Rattle.meaning.proofs.Operands.{Has, read-truth, read-int, relation-has, function-has, several-has, then-has}
 
 -- ---- choices
@@ -121,7 +121,7 @@ module _ {types : List ℕ} (ν : Valuation types) where
 
     bound-has : (i : ℕ) (ss : List Sense) (τs : List Ty) → Node (bound i) ss τs
     bound-has i [] τs g m e q ρ l =
-        let h = leb-false d i (made-index Γ d (bound i) 0 m) in
+        let h = leb-false d i (made-number Γ d (bound i) 0 m) in
         let z = nth-there ρ i (omega arith) in
         (int (z .0), rw (z .1), some-inj q)
     bound-has i (s ∷ ss) τs g m e q ρ l = let n = made-arity Γ d (bound i) (suc (length ss)) m in absurd (omega arith)
@@ -147,7 +147,7 @@ module _ {types : List ℕ} (ν : Valuation types) where
     many-has : (f : Many) (ss : List Sense) (τs : List Ty) → All2 (At d) ss τs → Node (many f) ss τs
     many-has f ss τs a g m e q ρ l =
         let v = values-has d ss τs a ρ l in
-        let n = many-count f (length ss) (made-count Γ d (many f) (length ss) m) in
+        let n = many-count f (length ss) (length Γ) d (made-number Γ d (many f) (length ss) m) in
         then-has τ (values ss ρ) (several f) (v .1) (several-has (v .0) f Γ (length ss) τ (rw (v .2) e) (rw (v .3) n) (rw (v .2) q))
 
     -- all choices of n more variables

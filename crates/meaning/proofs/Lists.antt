@@ -7,7 +7,7 @@ use mathlib.Core.Option.{Option, some, none}
 use native.Mathlib.Omega.{arith}
 use lib.ListN.{length}
 use Rattle.formula.proofs.Choices.{never, none-some}
-use Rattle.meaning.specs.Steps.{_>>=_, nth, each, concatMap}
+use Rattle.meaning.specs.Defined.{_>>=_, nth, each, concatMap}
 
 abbrev pub All : {A : Type 0} → (A → Type 0) → List A → Type 0
 All P [] = Unit {0}

@@ -7,7 +7,7 @@ use mathlib.Core.Logic.{_⊎_, inl, inr, ⊎-elim}
 use lib.IntN.{ℤ}
 use Rattle.formula.specs.Pick.{pick}
 use Rattle.formula.proofs.Choices.{never, and-left, and-right, and-both, or-cases}
-use Rattle.meaning.specs.Steps.{each, concatMap}
+use Rattle.meaning.specs.Defined.{each, concatMap}
 use Rattle.meaning.specs.Sets.{eqZ, member}
 use Rattle.meaning.specs.Operators.{allTrue, someTrue}
 use Rattle.meaning.specs.Meaning.{collect}

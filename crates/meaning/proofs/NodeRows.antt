@@ -11,9 +11,10 @@ use Rattle.formula.specs.Codes as C
 use Rattle.formula.specs.Codes.{Con, Rel, Fun, Many, Code}
 use Rattle.formula.specs.Types as T
 use Rattle.formula.specs.Types.{Ty, base}
-use Rattle.formula.specs.Rows.{rowOf, conRow, relRow, funRow, manyRow, fixed, is, countOut, indexOut, operands, declares}
+use Rattle.formula.specs.NodeTable.{rowOf, conRow, relRow, funRow, manyRow, fixed, is, operands, declares}
+use Rattle.formula.specs.NodeFault.{numberOut}
 use Rattle.formula.specs.Tree.{numberOf}
-use Rattle.formula.specs.Wrong.{wellMade}
+use Rattle.formula.specs.Typing.{wellMade}
 use Rattle.formula.proofs.Choices.{and-left, and-right}
 use Rattle.meaning.specs.Value.{tyOf}
 use Rattle.meaning.specs.Operators.{constant}
@@ -22,14 +23,8 @@ module _ (Γ : List Ty) (d : ℕ) (k : Code) (n : ℕ) (made : wellMade Γ d k n
   pub made-arity : n ≡ operands (rowOf k .arity) (numberOf k n)
   made-arity = eqb-true n (operands (rowOf k .arity) (numberOf k n)) (and-left (eqb n (operands (rowOf k .arity) (numberOf k n))) _ made)
 
-  made-rest : (not (countOut (rowOf k .number) (numberOf k n)) && not (indexOut (rowOf k .number) (numberOf k n) (length Γ) d)) ≡ true
-  made-rest = and-right (eqb n (operands (rowOf k .arity) (numberOf k n))) _ made
-
-  pub made-count : countOut (rowOf k .number) (numberOf k n) ≡ false
-  made-count = not-true _ (and-left (not (countOut (rowOf k .number) (numberOf k n))) _ made-rest)
-
-  pub made-index : indexOut (rowOf k .number) (numberOf k n) (length Γ) d ≡ false
-  made-index = not-true _ (and-right (not (countOut (rowOf k .number) (numberOf k n))) _ made-rest)
+  pub made-number : numberOut (rowOf k .number) (numberOf k n) (length Γ) d ≡ false
+  made-number = not-true _ (and-right (eqb n (operands (rowOf k .arity) (numberOf k n))) _ made)
 
 pub con-arity : (c : Con) → conRow c .arity ≡ fixed 0
 con-arity = elim [ C.top ↦ refl | C.bot ↦ refl | C.empty ↦ refl | C.nat ↦ refl | C.nat1 ↦ refl | C.tru ↦ refl | C.fls ↦ refl ]
@@ -57,11 +52,11 @@ or-neither false b e = refl
 some-operand : (lo n : ℕ) → 0 < lo → (ltb n lo || ltb 32 n) ≡ false → 0 < n
 some-operand lo n h e = let b = ltb-false n lo (or-neither (ltb n lo) (ltb 32 n) e) in omega arith
 
-pub many-count : (m : Many) (n : ℕ) → countOut (manyRow m .number) n ≡ false → 0 < n
-many-count C.and n e = some-operand 2 n (omega arith) e
-many-count C.or n e = some-operand 2 n (omega arith) e
-many-count C.add n e = some-operand 2 n (omega arith) e
-many-count C.mul n e = some-operand 2 n (omega arith) e
-many-count C.union n e = some-operand 2 n (omega arith) e
-many-count C.inter n e = some-operand 2 n (omega arith) e
-many-count C.ext n e = some-operand 1 n (omega arith) e
+pub many-count : (m : Many) (n t d : ℕ) → numberOut (manyRow m .number) n t d ≡ false → 0 < n
+many-count C.and n t d e = some-operand 2 n (omega arith) e
+many-count C.or n t d e = some-operand 2 n (omega arith) e
+many-count C.add n t d e = some-operand 2 n (omega arith) e
+many-count C.mul n t d e = some-operand 2 n (omega arith) e
+many-count C.union n t d e = some-operand 2 n (omega arith) e
+many-count C.inter n t d e = some-operand 2 n (omega arith) e
+many-count C.ext n t d e = some-operand 1 n (omega arith) e

@@ -12,13 +12,13 @@ use Rattle.formula.specs.Codes as C
 use Rattle.formula.specs.Codes.{Rel, Fun, Many, rel, fun, many}
 use Rattle.formula.specs.Types as T
 use Rattle.formula.specs.Types.{Ty, base, Kind, one, pairs, kindOf, among?, among, these, mayAll}
-use Rattle.formula.specs.Rows.{anyData, funRow, manyRow, operands}
-use Rattle.formula.specs.Wrong.{pairOf, resultOf, right}
+use Rattle.formula.specs.NodeTable.{anyData, funRow, manyRow, operands}
+use Rattle.formula.specs.Typing.{pairOf, resultOf, right}
 use Rattle.formula.proofs.Choices.{never, none-some, and-left, and-right, and-both}
 use Rattle.formula.proofs.SameType.{eqTy→eq}
 use Rattle.formula.proofs.DataType.{dataBase?, data?, good}
 use Rattle.formula.proofs.GoodType.{goods}
-use Rattle.meaning.specs.Steps.{_>>=_, each, unary, binary}
+use Rattle.meaning.specs.Defined.{_>>=_, each, unary, binary}
 use Rattle.meaning.specs.Value.{Val, truth, int, boo, set, nats, nats1, pair, tyOf, asTruth, asInt, asBoo, asSet, asPair, asData}
 use Rattle.meaning.specs.Sets.{eqZ, member, subset, strict, sameSet, filter}
 use Rattle.meaning.specs.Operators.{equal, memberOf, relation, function, several, allTrue, someTrue, sum, product, unions, inters}

@@ -8,10 +8,10 @@ use lib.ListN.{length}
 use Rattle.formula.specs.Pick.{pick}
 use Rattle.formula.specs.Codes.{Code}
 use Rattle.formula.specs.Types.{Ty}
-use Rattle.formula.specs.Rows.{rowOf}
+use Rattle.formula.specs.NodeTable.{rowOf}
 use Rattle.formula.specs.Tree.{Tree, node, Trees, nil, _▹_, size, numberOf}
 use Rattle.formula.specs.Formed.{inner}
-use Rattle.formula.specs.Wrong.{resultOf, right, wellMade, typeOf, typesIn}
+use Rattle.formula.specs.Typing.{resultOf, right, wellMade, typeOf, typesIn}
 use Rattle.meaning.specs.Fold.{fold, folds}
 use Rattle.meaning.proofs.Lists.{All2}
 

@@ -10,10 +10,10 @@ use lib.ListN.{length}
 use lib.IntN.{ℤ}
 use Rattle.formula.specs.Types as T
 use Rattle.formula.specs.Types.{Ty, base, typesOf}
-use Rattle.formula.specs.Rows.{sortOfTy}
+use Rattle.formula.specs.NodeTable.{sortOfTy}
 use Rattle.formula.specs.Tree.{Tree}
 use Rattle.formula.specs.Formula.{Formula}
-use Rattle.formula.specs.Wrong.{typeOf}
+use Rattle.formula.specs.Typing.{typeOf}
 use Rattle.formula.specs.declared.Sort.the-variants as sort
 use Rattle.formula.proofs.Typed.{typed-right}
 use Rattle.formula.proofs.DataType.{typesOf-data, sort-type}

@@ -13,15 +13,15 @@ use Rattle.formula.specs.Codes as C
 use Rattle.formula.specs.Codes.{Rel, Fun, Many, Bind, Code, con, ident, bound, lit, rel, fun, many, qu}
 use Rattle.formula.specs.Types as T
 use Rattle.formula.specs.Types.{Ty, one, kindOf, among?, among, these, mayAll, typeOfByte, typesOf}
-use Rattle.formula.specs.Rows.{anyData}
+use Rattle.formula.specs.NodeTable.{anyData}
 use Rattle.formula.specs.Tree.{Tree, node, Trees, nil, _▹_, size}
 use Rattle.formula.specs.Formed.{Allowed, Formed, AllFormed, inner}
-use Rattle.formula.specs.Wrong.{right, typeOf, typesIn}
+use Rattle.formula.specs.Typing.{right, typeOf, typesIn}
 use Rattle.formula.specs.declared.Sort.{Sort}
 use Rattle.formula.proofs.Choices.{none-some, and-both}
 use Rattle.formula.proofs.SameType.{eq→eqTy}
 use Rattle.formula.proofs.NodeType.{node-type, allowed-made}
-use Rattle.meaning.specs.Steps.{_>>=_, nth, each, nullary}
+use Rattle.meaning.specs.Defined.{_>>=_, nth, each, nullary}
 use Rattle.meaning.specs.Value.{Val, truth, int, boo, set, nats, nats1, pair, tyOf, asTruth, asInt, asBoo, asSet, asPair, asData}
 use Rattle.meaning.specs.Operators.{equal, memberOf, relation, function, several}
 use Rattle.meaning.specs.Fold.{fold, folds}

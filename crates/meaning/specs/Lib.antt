@@ -1,5 +1,5 @@
 -- What a reader must believe of the meaning of formulas, from the ground up.
-pub mod Steps
+pub mod Defined
 pub mod Value
 pub mod Sets
 pub mod Operators

@@ -10,8 +10,8 @@ use Rattle.formula.specs.Pick.{pick}
 use Rattle.formula.specs.Codes.{Bind, all, ex, compr, Code, con, ident, bound, lit, rel, fun, many, qu}
 use Rattle.formula.specs.Types.{Ty, typesOf}
 use Rattle.formula.specs.Tree.{Tree}
-use Rattle.formula.specs.Wrong.{typeOf}
-use Rattle.meaning.specs.Steps.{_>>=_, nth, each, concatMap, nullary, unary, binary}
+use Rattle.formula.specs.Typing.{typeOf}
+use Rattle.meaning.specs.Defined.{_>>=_, nth, each, concatMap, nullary, unary, binary}
 use Rattle.meaning.specs.Value.{Val, truth, int, set, tyOf, asTruth, asInt}
 use Rattle.meaning.specs.Operators.{constant, signed, relation, function, several, allTrue, someTrue}
 use Rattle.meaning.specs.Fold.{fold}

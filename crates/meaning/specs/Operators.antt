@@ -9,7 +9,7 @@ use lib.Signed.{ltZ, leZ}
 use Rattle.formula.specs.Pick.{pick}
 use Rattle.formula.specs.Codes as C
 use Rattle.formula.specs.Codes.{Con, Rel, Fun, Many}
-use Rattle.meaning.specs.Steps.{_>>=_, each, concatMap, unary, binary}
+use Rattle.meaning.specs.Defined.{_>>=_, each, concatMap, unary, binary}
 use Rattle.meaning.specs.Value.{Val, truth, int, boo, set, nats, nats1, pair, asTruth, asInt, asBoo, asSet, asPair, asData}
 use Rattle.meaning.specs.Sets.{eqZ, member, subset, strict, sameSet, filter, inAll}
 

@@ -2,7 +2,7 @@ use Prim.Native.Nat.{ℕ, _+_, _≤_}
 use mathlib.Core.Path.{_≡_}
 use lib.ListN.{length}
 use borrow.Author.Needs.{needs}
-use Rattle.formula.specs.Equal.{sameAt}
+use Rattle.formula.specs.Mirror.Ranges.{sameAt}
 use Rattle.formula.proofs.EqualLaws.{sames}
 use Rattle.formula.proofs.equal.same.Statement.{statement}
 use Rattle.formula.proofs.equal.same.Tie as tie

@@ -1,0 +1,3 @@
+pub mod PackedTable
+pub mod Bytes
+pub mod Ranges
