@@ -12,21 +12,23 @@ use Rattle.formula.specs.Pick.{pick, at}
 use Rattle.formula.specs.Codes.{Rel, eq, lt, le, gt, ge, mem, sub, sube, con, nat, nat1, relByte}
 use Rattle.formula.specs.Types.{Ty, typesOf}
 use Rattle.formula.specs.Tree.{Tree, node, nil, encode}
-use Rattle.formula.specs.Columns.{field}
+use Rattle.formula.specs.Mirror.PackedTable.{field}
 use Rattle.formula.specs.Equal.{sameBytes, same}
 use Rattle.formula.proofs.SameType.{same-test}
-use Rattle.variations.specs.Keys.{Side, L, R, Z, Key, key, inNat, inNat1, Marked, rowsOf, Condition}
-use Rattle.variations.specs.Substitutes.{Relation, side, keyTree, entryOf, meets}
-use Rattle.variations.specs.Table.{sideNumber, conditionNumber, packRow, keyAt}
-use Rattle.variations.specs.Bytes.{constants, partOf, meetsBy, rowIs, keyIs}
+use Rattle.keys.specs.Keys.{Side, L, R, Z, Key, key, inNat, inNat1, Marked, rowsOf, Condition}
+use Rattle.keys.specs.Substitutes.{Relation, side, keyTree, entryOf, meets}
+use Rattle.keys.specs.Mirror.PackedKeys.{sideNumber, itselfNumber, conditionNumber, packRow, keyAt}
+use Rattle.keys.specs.Mirror.Ranges.{constants}
+use Rattle.keys.specs.Mirror.RowTests.{partOf, meetsBy, rowIs}
+use Rattle.variations.specs.Mirror.SourceBytes.{keyIs}
 use Rattle.variations.specs.Answers.{answer}
-use Rattle.variations.specs.declared.Source.{Source}
-use Rattle.variations.specs.declared.Asked.{Asked}
+use Rattle.keys.specs.declared.Source.{Source}
+use Rattle.keys.specs.declared.Asked.{Asked}
 use Rattle.variations.specs.declared.Keyed.{Keyed}
 use Rattle.variations.specs.declared.Keyed.the-variants as keyed
-use Rattle.variations.proofs.TableIs.{codeOf, leftOf, rightOf, Columns, AllColumns, firstOf, row-there, columns-of, loneOf, loneRow, lone-code, lone-value}
-use Rattle.variations.proofs.RowIs.{Bytes, SideBytes, AskedBytes, row-relation, row-whole}
-use Rattle.variations.proofs.Standing.{there-bytes}
+use Rattle.keys.proofs.TableIs.{codeOf, leftOf, rightOf, Columns, AllColumns, firstOf, row-there, columns-of, loneRow, lone-code, lone-value}
+use Rattle.keys.proofs.RowIs.{Bytes, SideBytes, AskedBytes, row-relation, row-whole}
+use Rattle.keys.proofs.Standing.{there-bytes}
 use Rattle.variations.proofs.SourceIs.{PartIs}
 
 -- ---- the sides of keys
@@ -58,22 +60,22 @@ key-code (inNat a) = rel-code mem
 key-code (inNat1 a) = rel-code mem
 
 module _ (s types : List ℕ) (x : Source) (l r : Tree) (A : PartIs s types (x .left) l) (B : PartIs s types (x .right) r) where
-  side-bytes : (a : Side) → SideBytes s x (sideNumber a) (encode (side l r a))
+  side-bytes : (a : Side) → SideBytes s (partOf x (sideNumber a)) (sideNumber a) (encode (side l r a))
   unfolding partOf constants encode
-  side-bytes L = record { there = there-bytes s (x .left .at) l (A .side .there); long = A .long }
-  side-bytes R = record { there = there-bytes s (x .right .at) r (B .side .there); long = B .long }
-  side-bytes Z = record { there = record { in-bounds = omega arith; bytes-are = refl }; long = refl }
+  side-bytes L = rw (← A .long) (there-bytes s (x .left .at) l (A .side .there))
+  side-bytes R = rw (← B .long) (there-bytes s (x .right .at) r (B .side .there))
+  side-bytes Z = record { long = refl; in-bounds = omega arith; bytes-are = refl }
 
-  left-bytes : (k : Key) → SideBytes s x (leftOf k) (encode (leftTree l r k))
+  left-bytes : (k : Key) → SideBytes s (partOf x (leftOf k)) (leftOf k) (encode (leftTree l r k))
   left-bytes (key q a b) = side-bytes a
   left-bytes (inNat a) = side-bytes a
   left-bytes (inNat1 a) = side-bytes a
 
-  right-bytes : (k : Key) → SideBytes s x (rightOf k) (encode (rightTree l r k))
+  right-bytes : (k : Key) → SideBytes s (partOf x (rightOf k)) (rightOf k) (encode (rightTree l r k))
   unfolding partOf constants encode
   right-bytes (key q a b) = side-bytes b
-  right-bytes (inNat a) = record { there = record { in-bounds = omega arith; bytes-are = refl }; long = refl }
-  right-bytes (inNat1 a) = record { there = record { in-bounds = omega arith; bytes-are = refl }; long = refl }
+  right-bytes (inNat a) = record { long = refl; in-bounds = omega arith; bytes-are = refl }
+  right-bytes (inNat1 a) = record { long = refl; in-bounds = omega arith; bytes-are = refl }
 
 -- ---- a row
 -- what a row with the number n says
@@ -97,8 +99,8 @@ module _ (s types : List ℕ) (x : Source) (q : Relation) (A : PartIs s types (x
       let k = m .key-is in
       let l = leftTree (q .left) (q .right) k in
       let r = rightTree (q .left) (q .right) k in
-      let a : SideBytes s x (field (packRow m) 8) (encode l) = rw (C .left-is) (left-bytes s types x (q .left) (q .right) A B k) in
-      let b : SideBytes s x (field (packRow m) 16) (encode r) = rw (C .right-is) (right-bytes s types x (q .left) (q .right) A B k) in
+      let a : SideBytes s (partOf x (field (packRow m) 8)) (field (packRow m) 8) (encode l) = rw (C .left-is) (left-bytes s types x (q .left) (q .right) A B k) in
+      let b : SideBytes s (partOf x (field (packRow m) 16)) (field (packRow m) 16) (encode r) = rw (C .right-is) (right-bytes s types x (q .left) (q .right) A B k) in
       let i : rowIs s x (packRow m) t y ≡ pick (meets (typesOf types) (q .left) (q .right) (m .condition)) (same (keyTree (q .left) (q .right) k) w) false =
       row-relation s x (packRow m) t y (encode w) Y (codeOf k) (encode l) (encode r) a b (C .code-is) (key-code k) ∙ rw (C .condition-is, M (m .condition), key-bytes (q .left) (q .right) k) refl in
       rw i (entry-answer (typesOf types) q m w (eqb (field (packRow m) 32) 1) (C .value-is))
@@ -128,12 +130,12 @@ module _ (s types : List ℕ) (x : Source) (q : Relation) (A : PartIs s types (x
       go false e = rw (row-there b (q .shape) k (leb-false (length (rowsOf b (q .shape))) k e)) refl
 
 -- ---- a source that gives only itself
-module _ (s : List ℕ) (x : Source) (z : Tree) (X : Bytes s (x .whole .at) (encode z)) (n : x .whole .len ≡ length (encode z)) (t : List ℕ) (y : Asked) (w : Tree) (Y : AskedBytes t y (encode w)) where
-  pub lone-answers : (b : Bool) → x .first ≡ field (keyAt (loneOf b)) 0 → x .count ≡ 1 → (k : ℕ) → keyIs s x k t y ≡ answer (at (some (record { key = z; value = b }) ∷ []) k) w
+module _ (s : List ℕ) (x : Source) (z : Tree) (X : Bytes s (x .whole .at) (x .whole .end) (encode z)) (t : List ℕ) (y : Asked) (w : Tree) (Y : AskedBytes t y (encode w)) where
+  pub lone-answers : (b : Bool) → x .first ≡ field (keyAt (itselfNumber b)) 0 → x .count ≡ 1 → (k : ℕ) → keyIs s x k t y ≡ answer (at (some (record { key = z; value = b }) ∷ []) k) w
   unfolding keyIs same
   lone-answers b f c zero =
       let i : verdict s x t y (keyAt (x .first + 0)) ≡ pick (sameBytes (encode z) (encode w)) (keyed.Yes b) keyed.No =
-      ap (λ (i : ℕ). verdict s x t y (keyAt (i + 0))) f ∙ ap₂ (λ (u v : Bool). pick u (keyed.Yes v) keyed.No) (row-whole s x (loneRow b) t y (encode w) Y (encode z) X n (lone-code b)) (lone-value b) in
+      ap (λ (i : ℕ). verdict s x t y (keyAt (i + 0))) f ∙ ap₂ (λ (u v : Bool). pick u (keyed.Yes v) keyed.No) (row-whole s x (loneRow b) t y (encode w) Y (encode z) X (lone-code b)) (lone-value b) in
       simp (lt-leb (x .count) 0 (omega (arith, c))) i
   lone-answers b f c (suc k) = simp (le-leb (x .count) (suc k) (omega (arith, c)))
 

@@ -1,22 +1,12 @@
--- What the crate proves, from the ground up.
--- The theorems for callers: Answering (what the code answers is what document 01's lists say), Soundness and Typing (the lists are right).
+-- The map of what the crate proves. For callers: Answering (what the code answers is what the entries of crate keys say).
 
--- the cases of the code's definitions
-pub mod SourceLaws
-pub mod RowLaws
--- the packed table is the lists
-pub mod TableIs
--- bytes and trees: a row's test, formulas in a buffer, stripping, literals, sides and conditions
-pub mod RowIs
-pub mod Standing
-pub mod StripIs
-pub mod SideTypes
+-- Laws: the cases of the code's definitions, as its functions need them
+pub mod Laws
+-- LiteralIs: which literal a side is, by its bytes
 pub mod LiteralIs
+-- SourceIs: a relational source's sides, conditions and group on bytes are those of the tree
 pub mod SourceIs
+-- KeyAnswers: a row's answer is that of the entry at its position
 pub mod KeyAnswers
+-- Answering: a source answers, position by position and as a whole, what its entries say
 pub mod Answering
--- the keys are typed, and have the values listed
-pub mod Worlds
-pub mod Holds
-pub mod Soundness
-pub mod Typing

@@ -1,8 +1,8 @@
 -- Which literal stands at a place, by its bytes.
-use Prim.Native.Nat.{ℕ, zero, suc, _+_, _*_, _/_, _%_, _<_, _≤_, _^_}
+use Prim.Native.Nat.{ℕ, zero, suc, _+_, _-_, _*_, _/_, _%_, _<_, _^_}
 use mathlib.Core.Path.{_≡_, refl, sym, ap, _∙_}
 use mathlib.Core.Bool.{Bool, true, false, _&&_}
-use mathlib.Core.List.{List, _∷_, _++_, append-assoc}
+use mathlib.Core.List.{List, [], _∷_, _++_, append-nil}
 use native.Mathlib.Omega.{arith}
 use lib.ListN.{length, getD, take, drop}
 use lib.Seq.{getD-drop, take-at}
@@ -10,18 +10,21 @@ use lib.Dec.{eqb, ltb, leb}
 use borrow.Author.Tests.{eqb-true, eq-eqb, ne-eqb, lt-ltb, le-leb, lt-leb, ltb-true, ltb-false}
 use Rattle.formula.specs.Pick.{pick}
 use Rattle.formula.specs.Codes.{Code, lit, byteOf}
-use Rattle.formula.specs.Rows.{Row, rowOf, word}
-use Rattle.formula.specs.Tree.{node, Trees, size, numberOf, numberBytes, bytesLE, encode, encodes}
+use Rattle.formula.specs.NodeTable.{rowOf, operands}
+use Rattle.formula.specs.Tree.{node, Trees, nil, _▹_, size, numberOf, numberBytes, bytesLE, encode, encodes}
 use Rattle.formula.specs.Reading.{ofLE}
 use Rattle.formula.specs.Equal.{sameBytes}
-use Rattle.formula.specs.Bytes.{byteAt}
+use Rattle.formula.specs.Mirror.Bytes.{byteAt}
 use Rattle.formula.proofs.Places.{head-is, le-long, le-there, reaches}
 use Rattle.formula.proofs.Numbers.{own-bytes}
 use Rattle.formula.proofs.SameType.{same-test}
 use Rattle.formula.proofs.SameBytes.{same-bytes-is, is-same-bytes}
-use Rattle.variations.specs.Bytes.{part, constants, samePart, literalAt}
-use Rattle.variations.proofs.RowIs.{Bytes, is-inside, part-is}
-use Rattle.variations.proofs.Standing.{There, first-byte, row-by}
+use Rattle.formula.specs.Mirror.Ranges.{sameRange}
+use Rattle.keys.specs.Mirror.Ranges.{part, constants}
+use Rattle.variations.specs.Mirror.SourceBytes.{literalAt}
+use Rattle.keys.specs.declared.Part.{Part}
+use Rattle.keys.proofs.RowIs.{Bytes, ranges-are}
+use Rattle.keys.proofs.Standing.{There, first-byte, row-by}
 
 -- the literal 0, positive, negative
 abbrev pub literalKind : Bool → ℕ → ℕ
@@ -45,49 +48,70 @@ zero-word w h =
     (λ e. eq-eqb w 0 (sym (le-there 8 w h) ∙ ap ofLE (sym (same-bytes-is (bytesLE 8 0) (bytesLE 8 w) e)) ∙ le-there 8 0 (omega arith)))
     (λ e. is-same-bytes (bytesLE 8 0) (bytesLE 8 w) (ap (bytesLE 8) (sym (eqb-true w 0 e))))
 
-zero-bytes : Bytes constants 0 (34 ∷ bytesLE 8 0)
+zero-bytes : Bytes constants 0 9 (34 ∷ bytesLE 8 0)
 unfolding constants
-zero-bytes = record { in-bounds = omega arith; bytes-are = refl }
+zero-bytes = record { long = refl; in-bounds = omega arith; bytes-are = refl }
 
-module _ (s : List ℕ) (p w : ℕ) (r : List ℕ) (h : w < 2 ^ 64) (e : drop p s ≡ (34 ∷ bytesLE 8 w) ++ r) where
-  in-s : p + 9 ≤ length s
-  in-s = let n = le-long 8 w in let i = reaches s p (34 ∷ bytesLE 8 w) r e (omega arith) in omega arith
+-- the word w stands from p on
+module _ (s : List ℕ) (p w : ℕ) (r : List ℕ) (h : w < 2 ^ 64) (d : drop p s ≡ (34 ∷ bytesLE 8 w) ++ r) where
+  word-long : length (34 ∷ bytesLE 8 w) ≡ 9
+  word-long = ap suc (le-long 8 w)
 
-  zero-there : samePart constants (part 0 9) s p ≡ eqb w 0
+  word-bytes : Bytes s p (p + 9) (34 ∷ bytesLE 8 w)
+  word-bytes =
+      let n = word-long in
+      let i = reaches s p (34 ∷ bytesLE 8 w) r d (omega arith) in
+      record {
+        long = omega arith;
+        in-bounds = omega arith;
+        bytes-are = ap (take (length (34 ∷ bytesLE 8 w))) d ∙ take-at (34 ∷ bytesLE 8 w) r (length (34 ∷ bytesLE 8 w)) refl;
+      }
+
+  zero-there : sameRange constants 0 9 s p (p + 9) ≡ eqb w 0
   unfolding sameBytes
-  zero-there =
-      part-is constants (part 0 9) (34 ∷ bytesLE 8 0) zero-bytes refl s p in-s
-      ∙ ap (λ (l : List ℕ). sameBytes (34 ∷ bytesLE 8 0) (take 9 l)) e
-      ∙ ap (sameBytes (34 ∷ bytesLE 8 0)) (take-at (34 ∷ bytesLE 8 w) r 9 (ap suc (le-long 8 w)))
-      ∙ zero-word w h
+  zero-there = ranges-are constants 0 9 (34 ∷ bytesLE 8 0) zero-bytes s p (p + 9) (34 ∷ bytesLE 8 w) word-bytes ∙ zero-word w h
 
-  sign-there : ltb (byteAt s (p + 8)) 128 ≡ ltb w (2 ^ 63)
+  sign-there : ltb (byteAt s (p + 9 - 1)) 128 ≡ ltb w (2 ^ 63)
   unfolding byteAt
-  sign-there = ap (λ (b : ℕ). ltb b 128) (sym (getD-drop p s 8 0) ∙ ap (λ (l : List ℕ). getD l 8 0) e) ∙ top-byte 7 w h
+  sign-there =
+      let e : p + 9 - 1 ≡ p + 8 = omega arith in
+      ap (λ (b : ℕ). ltb b 128) (ap (λ (n : ℕ). getD s n 0) e ∙ sym (getD-drop p s 8 0) ∙ ap (λ (l : List ℕ). getD l 8 0) d) ∙ top-byte 7 w h
 
-  word-there : literalAt s p ≡ literalKind true w
+  word-there : literalAt s (part p (p + 9)) ≡ literalKind true w
   unfolding literalAt
   word-there =
-      let c : byteAt s p ≡ 34 = unfold byteAt in head-is s p 34 (bytesLE 8 w ++ r) e in
-      rw (c, is-inside s p 9 in-s, zero-there, sign-there) refl
+      let c : byteAt s p ≡ 34 = unfold byteAt in head-is s p 34 (bytesLE 8 w ++ r) d in
+      rw (c, zero-there, sign-there) refl
+
+no-operands : (xs : Trees) → size xs ≡ 0 → encodes xs ≡ []
+unfolding encode
+no-operands nil e = refl
+no-operands (x ▹ xs) e = absurd (omega (arith, e))
 
 -- THE LAW of literals
-pub literal-is : (s : List ℕ) (p : ℕ) (k : Code) (xs : Trees) → There s p (node k xs) → numberOf k (size xs) < 2 ^ 64 → literalAt s p ≡ literalKind (eqb (byteOf k) 34) (numberOf k (size xs))
+pub literal-is : (s : List ℕ) (a : Part) (k : Code) (xs : Trees) → There s (a .at) (node k xs) → a .at + length (encode (node k xs)) ≡ a .end → size xs ≡ operands (rowOf k .arity) (numberOf k (size xs))
+    → numberOf k (size xs) < 2 ^ 64 → literalAt s a ≡ literalKind (eqb (byteOf k) 34) (numberOf k (size xs))
 unfolding literalAt encode
-literal-is s p k xs T h = go (eqb (byteOf k) 34) refl
+literal-is s a k xs T i o h = go (eqb (byteOf k) 34) refl
   where
     w : ℕ
     w = numberOf k (size xs)
 
-    bytes : byteOf k ≡ 34 → drop p s ≡ (34 ∷ bytesLE 8 w) ++ (encodes xs ++ T .0)
+    bytes : byteOf k ≡ 34 → encode (node k xs) ≡ 34 ∷ bytesLE 8 w
     bytes e =
-        let N : rowOf k .number ≡ word = ap (λ (r : Row). r .number) (row-by k (lit 0) e) in
-        let n : numberBytes k (size xs) ≡ bytesLE 8 w = own-bytes k (size xs) ∙ rw N refl in
-        T .1 ∙ rw (e, n) (ap (λ (l : List ℕ). 34 ∷ l) (append-assoc (bytesLE 8 w) (encodes xs) (T .0)))
+        let R : rowOf k ≡ rowOf (lit 0) = row-by k (lit 0) e in
+        let z : size xs ≡ 0 = rw R at o in
+        let n : numberBytes k (size xs) ≡ bytesLE 8 w = own-bytes k (size xs) ∙ rw R refl in
+        rw (e, no-operands xs z, append-nil (numberBytes k (size xs))) (ap (λ (l : List ℕ). 34 ∷ l) n)
 
-    go : (v : Bool) → eqb (byteOf k) 34 ≡ v → literalAt s p ≡ literalKind v w
-    go true q = word-there s p w (encodes xs ++ T .0) h (bytes (eqb-true (byteOf k) 34 q))
-    go false q = rw (first-byte s p k xs T) (simp q)
+    go : (v : Bool) → eqb (byteOf k) 34 ≡ v → literalAt s a ≡ literalKind v w
+    go true q =
+        let b = bytes (eqb-true (byteOf k) 34 q) in
+        let n = ap length b ∙ ap suc (le-long 8 w) in
+        let d : drop (a .at) s ≡ (34 ∷ bytesLE 8 w) ++ T .0 = T .1 ∙ ap (λ (l : List ℕ). l ++ T .0) b in
+        let e : a .at + 9 ≡ a .end = omega (arith, n, i) in
+        ap (λ (e : ℕ). literalAt s (part (a .at) e)) (sym e) ∙ word-there s (a .at) w (T .0) h d
+    go false q = rw (first-byte s (a .at) k xs T) (simp q)
 
 -- ---- what the conditions ask
 pub zero-is : (b : Bool) (w : ℕ) → eqb (literalKind b w) 1 ≡ (b && eqb w 0)

@@ -1,7 +1,4 @@
-pub mod Strip
-pub mod Keys
-pub mod Substitutes
-pub mod Table
-pub mod Bytes
+-- What a reader must believe of a source's answers; the entries themselves are in crate keys.
 pub mod Answers
-pub mod Sound
+-- what the code does on bytes
+pub mod Mirror

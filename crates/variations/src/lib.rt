@@ -1,31 +1,21 @@
-// The substitutes of one source: document 01's keys, row by row.
-pub mod keys;
-pub mod parts;
-pub mod rows;
+// What a source says of a predicate: its keys by position, and the first for it.
 pub mod sources;
 
 ghost use mathlib.Core.Path.{_≡_};
-ghost use Rattle.formula.specs.Columns.{table};
-ghost use Rattle.variations.specs.Table.{keyTable};
-ghost use Rattle.variations.specs.Bytes.{lookUp};
-ghost use Rattle.variations.specs.Answers.{LookUpIs};
-use formula::table::TABLE;
-use keys::KEYS;
-use rows::asked_at;
-use rows::first_key;
-use sources::source_at;
-
-// Some bytes of a buffer.
-pub struct Part {
-    pub at: usize,
-    pub len: usize,
-}
-
-// A predicate without its ¬, and whether it is true.
-pub struct Bare {
-    pub at: usize,
-    pub value: bool,
-}
+ghost use Rattle.formula.specs.Mirror.PackedTable.{table};
+ghost use Rattle.keys.specs.Mirror.PackedKeys.{keyTable};
+ghost use Rattle.variations.specs.Answers.{AskedIs};
+ghost use Rattle.variations.specs.Mirror.SourceBytes.{keyIs, askedAt, firstKey};
+ghost use Rattle.variations.specs.Mirror.Positions.{KeyIs, FirstIs};
+use formula::bytes::byte_at;
+use formula::skip::skip;
+use formula::table::field_of;
+use keys::Asked;
+use keys::Part;
+use keys::Source;
+use keys::rows::row_is;
+use keys::table::VALUE;
+use keys::table::key_at;
 
 // The sides of a relation, ≥ and > turned round.
 pub struct Sides {
@@ -33,72 +23,61 @@ pub struct Sides {
     pub right: Part,
 }
 
-// What the conditions of rows ask: the kind of the right side, as a bit, and which literals the sides are (0 none, 1 the
-// literal 0, 2 a positive one, 3 a negative one).
-pub struct Facts {
-    pub kind: usize,
-    pub left: usize,
-    pub right: usize,
-}
-
-// A source: its rows among the keys, where it stands without its ¬, its sides, and what its conditions ask.
-pub struct Source {
-    pub first: usize,
-    pub count: usize,
-    pub whole: Part,
-    pub left: Part,
-    pub right: Part,
-    pub facts: Facts,
-}
-
-// A predicate to be looked for.
-pub struct Asked {
-    pub code: usize,
-    pub at: usize,
-    pub len: usize,
-}
-
-// Whether a row's key is the predicate asked, and the truth value that stands for it.
+// Whether a key is the predicate asked, and the truth value that stands for it.
 pub enum Keyed {
     No,
     Yes(bool),
 }
 
-// What the source says of the predicate at `from`, with tables that are lent.
-fn look_with(
-    s: &[u8],
-    rows: &[u64; 51],
-    keys: &[u64; 179],
-    types: &[u8],
-    at: usize,
-    end: usize,
-    starts: bool,
-    t: &[u8],
-    from: usize,
-) -> Keyed
+// The predicate that starts at `at`.
+pub fn asked_at(t: &[u8], rows: &[u64; 51], at: usize) -> Asked
     requires { ⌜ now rows ≡ table ⌝ }
-    requires { ⌜ now keys ≡ keyTable ⌝ }
-    ensures { λ r. ⌜ r ≡ lookUp (now (s .entry)) (now (types .entry)) at end starts (now (t .entry)) from ⌝ }
+    ensures { λ r. ⌜ AskedIs (now (t .entry)) at r ⌝ }
+    ensures { λ r. ⌜ r ≡ askedAt (now (t .entry)) at ⌝ }
 {
-    let x = source_at(s, rows, keys, types, at, end, starts);
-    let y = asked_at(t, rows, from);
-    first_key(s, keys, x, t, y)
+    let end = skip(t, rows, at);
+    Asked {
+        code: byte_at(t, at),
+        at: at,
+        end: end,
+    }
 }
 
-// What the source with the predicate of s from `at` to `end` says of the predicate that starts at `from` in t.
-pub fn look_up(
-    s: &[u8],
-    types: &[u8],
-    at: usize,
-    end: usize,
-    starts: bool,
-    t: &[u8],
-    from: usize,
-) -> Keyed
-    ensures { λ r. ⌜ r ≡ lookUp (now (s .entry)) (now (types .entry)) at end starts (now (t .entry)) from ⌝ }
-    ensures { λ r. ⌜ LookUpIs (now (s .entry)) (now (types .entry)) at end starts (now (t .entry)) from r ⌝ }
+// Whether the source's key at position k is the predicate asked, and the truth value that stands for it.
+pub fn key_is(s: &[u8], keys: &[u64; 179], x: Source, k: usize, t: &[u8], y: Asked) -> Keyed
+    requires { ⌜ now keys ≡ keyTable ⌝ }
+    ensures { λ r. ⌜ KeyIs (now (s .entry)) x k (now (t .entry)) y r ⌝ }
+    ensures { λ r. ⌜ r ≡ keyIs (now (s .entry)) x k (now (t .entry)) y ⌝ }
 {
-    let rows = TABLE;
-    let keys = KEYS;
-    look_with(s, &rows, &keys, types, at, end, starts, t, from)
+    if x.count <= k {
+        return Keyed::No;
+    }
+    let row = key_at(keys, x.first, k);
+    if row_is(s, x, row, t, y) {
+        let v = field_of(row, VALUE);
+        return Keyed::Yes(v == 1);
+    }
+    Keyed::No
+}
+
+// What the source says of the predicate asked: its first key for it.
+pub fn first_key(s: &[u8], keys: &[u64; 179], x: Source, t: &[u8], y: Asked) -> Keyed
+    requires { ⌜ now keys ≡ keyTable ⌝ }
+    ensures { λ r. ⌜ FirstIs (now (s .entry)) x (now (t .entry)) y r ⌝ }
+    ensures { λ r. ⌜ r ≡ firstKey (now (s .entry)) x (now (t .entry)) y ⌝ }
+{
+    let mut k = 0usize;
+    let mut left = x.count;
+    while left != 0 {
+        let z = key_is(s, keys, x, k, t, y);
+        match z {
+            Keyed::Yes(v) => {
+                return Keyed::Yes(v);
+            }
+            Keyed::No => {}
+        }
+        k += 1;
+        left -= 1;
+    }
+    Keyed::No
 }

@@ -1,79 +1,92 @@
 // A source: stripped, its sides, the conditions it meets, and its rows.
 ghost use mathlib.Core.Path.{_≡_};
-ghost use Prim.Native.Nat.{ℕ, _+_, _-_, _<_};
+ghost use Prim.Native.Nat.{ℕ, _<_};
 ghost use mathlib.Core.Bool.{true};
-ghost use Rattle.formula.specs.Columns.{table};
-ghost use Rattle.formula.specs.Bytes.{byteAt};
-ghost use Rattle.variations.specs.Table.{keyTable};
-ghost use Rattle.variations.specs.Bytes.{stripAt, turnedRound, sidesAt, literalAt, factsAt, memberNumber, shapeNumber, relational, groupNumber, loneNumber, sourceWith, relatedBy, loneBy, sourceBy, sourceAt};
-ghost use Rattle.variations.specs.Answers.{SourceIs};
-use super::Bare;
-use super::Facts;
-use super::Part;
+ghost use Rattle.formula.specs.Mirror.PackedTable.{table};
+ghost use Rattle.formula.specs.Mirror.Bytes.{byteAt};
+ghost use Rattle.keys.specs.Mirror.PackedKeys.{keyTable, groupNumber};
+ghost use Rattle.variations.specs.Mirror.SourceBytes.{turnedRound, sidesAt, literalAt, factsAt, memberNumber, relationNumber, relational, loneNumber, sourceWith, relatedBy, loneBy, sourceBy, sourceAt};
+ghost use Rattle.variations.specs.Mirror.Positions.{SourceIs};
 use super::Sides;
-use super::Source;
-use super::keys::key_at;
-use super::parts::gap;
-use super::parts::has_bytes;
-use super::parts::same_constant;
-use formula::node::byte_at;
-use formula::shape::skip;
-use formula::shape::type_at;
+use formula::bytes::byte_at;
+use formula::skip::skip;
+use formula::skip::type_at;
 use formula::table::field_of;
+use keys::Facts;
+use keys::Part;
+use keys::Source;
+use keys::ranges::gap;
+use keys::ranges::same_constant;
+use keys::rows::NEGATIVE;
+use keys::rows::NO_LITERAL;
+use keys::rows::POSITIVE;
+use keys::rows::ZERO;
+use keys::strip::strip_at;
+use keys::table::COUNT;
+use keys::table::FIRST;
+use keys::table::key_at;
 
-// Strips all ¬, flipping each time.
-fn strip_at(s: &[u8], at: usize, starts: bool) -> Bare
-    ensures { λ r. ⌜ r ≡ stripAt (now (s .entry)) at starts ⌝ }
-{
-    // the buffer's length bounds the places in it
-    let len = s.len();
-    let mut p = at;
-    let mut value = starts;
-    let mut left = 32usize;
-    while left != 0 {
-        let c = byte_at(s, p);
-        if c != 3 {
-            return Bare {
-                at: p,
-                value: value,
-            };
-        }
-        p += 1;
-        value = !value;
-        left -= 1;
-    }
-    Bare {
-        at: p,
-        value: value,
-    }
-}
+// Node codes.
+const TOP: usize = 0x01;
+
+const BOTTOM: usize = 0x02;
+
+const EQ: usize = 0x10;
+
+const LE: usize = 0x12;
+
+const GT: usize = 0x13;
+
+const GE: usize = 0x14;
+
+const IN: usize = 0x15;
+
+const SUBE: usize = 0x17;
+
+const LITERAL: usize = 0x22;
+
+const NAT: usize = 0x24;
+
+const NAT1: usize = 0x25;
+
+// Groups of rows: eight shapes true, eight false, any other predicate true, false, and none.
+const IN_SET: usize = 3;
+
+const IN_NAT: usize = 4;
+
+const IN_NAT1: usize = 5;
+
+const SHAPES: usize = 8;
+
+const ITSELF_TRUE: usize = 16;
+
+const ITSELF_FALSE: usize = 17;
+
+const NOTHING: usize = 18;
 
 // > and ≥.
 fn turned_round(c: usize) -> bool
     ensures { λ r. ⌜ r ≡ turnedRound c ⌝ }
 {
-    if c == 19 { true } else { c == 20 }
+    if c == GT { true } else { c == GE }
 }
 
-// The sides of the relation at p; l≥r is treated as r≤l, l>r as r<l.
-fn sides_at(s: &[u8], rows: &[u64; 51], p: usize, end: usize) -> Sides
+// The sides of the relation at w; l≥r is treated as r≤l, l>r as r<l.
+fn sides_at(s: &[u8], rows: &[u64; 51], w: Part) -> Sides
     requires { ⌜ now rows ≡ table ⌝ }
-    requires { ⌜ relational (byteAt (now s) p) ≡ true ⌝ }
-    ensures { λ r. ⌜ r ≡ sidesAt (now (s .entry)) p end ⌝ }
+    requires { ⌜ relational (byteAt (now s) (w .at)) ≡ true ⌝ }
+    ensures { λ r. ⌜ r ≡ sidesAt (now (s .entry)) w ⌝ }
 {
     // the buffer's length bounds the places in it
     let len = s.len();
-    let from = p + 1;
+    let from = w.at + 1;
     let mid = skip(s, rows, from);
-    let near = Part {
-        at: from,
-        len: gap(from, mid),
-    };
+    let near = Part { at: from, end: mid };
     let far = Part {
         at: mid,
-        len: gap(mid, end),
+        end: w.end,
     };
-    if turned_round(byte_at(s, p)) {
+    if turned_round(byte_at(s, w.at)) {
         return Sides {
             left: far,
             right: near,
@@ -85,33 +98,27 @@ fn sides_at(s: &[u8], rows: &[u64; 51], p: usize, end: usize) -> Sides
     }
 }
 
-// What literal stands at p: 1 the literal 0, 2 a positive one, 3 a negative one, 0 none.
-fn literal_at(s: &[u8], p: usize) -> usize
-    ensures { λ r. ⌜ r ≡ literalAt (now (s .entry)) p ⌝ }
+// Which literal a side is; the last of its bytes has the sign.
+fn literal_at(s: &[u8], a: Part) -> usize
+    ensures { λ r. ⌜ r ≡ literalAt (now (s .entry)) a ⌝ }
 {
-    // the buffer's length bounds the places in it
-    let len = s.len();
-    let c = byte_at(s, p);
-    if c != 0x22 {
-        return 0;
+    if byte_at(s, a.at) != LITERAL {
+        return NO_LITERAL;
     }
-    if has_bytes(s, p, 9) {
-        if same_constant(Part { at: 0, len: 9 }, s, p) {
-            return 1;
-        }
-        let top = byte_at(s, p + 8);
-        return if top < 128 { 2 } else { 3 };
+    if same_constant(Part { at: 0, end: 9 }, s, a.at, a.end) {
+        return ZERO;
     }
-    0
+    let top = byte_at(s, gap(1, a.end));
+    if top < 128 { POSITIVE } else { NEGATIVE }
 }
 
-// What conditions ask of the sides at l and r.
-fn facts_at(s: &[u8], rows: &[u64; 51], types: &[u8], l: usize, r: usize) -> Facts
+// What conditions ask of the sides l and r.
+fn facts_at(s: &[u8], rows: &[u64; 51], types: &[u8], l: Part, r: Part) -> Facts
     requires { ⌜ now rows ≡ table ⌝ }
     ensures { λ z. ⌜ z ≡ factsAt (now (s .entry)) (now (types .entry)) l r ⌝ }
 {
     Facts {
-        kind: type_at(s, rows, types, r),
+        kind: type_at(s, rows, types, r.at),
         left: literal_at(s, l),
         right: literal_at(s, r),
     }
@@ -122,32 +129,32 @@ fn member_number(r: usize) -> usize
     ensures { λ z. ⌜ z ≡ memberNumber r ⌝ }
     ensures { λ z. ⌜ z < 8 ⌝ }
 {
-    if r == 0x24 {
-        return 4;
+    if r == NAT {
+        return IN_NAT;
     }
-    if r == 0x25 { 5 } else { 3 }
+    if r == NAT1 { IN_NAT1 } else { IN_SET }
 }
 
 // = < ≤ > ≥ ∈ ⊂ ⊆.
 fn is_relational(c: usize) -> bool
     ensures { λ r. ⌜ r ≡ relational c ⌝ }
 {
-    if c < 0x10 { false } else { c < 0x18 }
+    if c < EQ { false } else { c <= SUBE }
 }
 
-// The number of a relation's shape, by its code and that of its right side.
-fn shape_number(c: usize, r: usize) -> usize
+// The number of a relation's shape, by its code and that of its right side: > and ≥ count as < and ≤.
+fn relation_number(c: usize, r: usize) -> usize
     requires { ⌜ relational c ≡ true ⌝ }
-    ensures { λ z. ⌜ z ≡ shapeNumber c r ⌝ }
+    ensures { λ z. ⌜ z ≡ relationNumber c r ⌝ }
     ensures { λ z. ⌜ z < 8 ⌝ }
 {
-    if c == 0x15 {
+    if c == IN {
         return member_number(r);
     }
-    if 0x15 < c {
-        return c - 16;
+    if IN < c {
+        return c - EQ;
     }
-    if 0x12 < c { c - 18 } else { c - 16 }
+    if LE < c { c - LE } else { c - EQ }
 }
 
 // The group of a relation's rows.
@@ -155,20 +162,20 @@ fn group_number(value: bool, n: usize) -> usize
     requires { ⌜ n < 8 ⌝ }
     ensures { λ r. ⌜ r ≡ groupNumber value n ⌝ }
 {
-    if value { n } else { n + 8 }
+    if value { n } else { n + SHAPES }
 }
 
 // The group of any other predicate: itself, or nothing for a literal.
 fn lone_number(value: bool, c: usize) -> usize
     ensures { λ r. ⌜ r ≡ loneNumber value c ⌝ }
 {
-    if c == 1 {
-        return 18;
+    if c == TOP {
+        return NOTHING;
     }
-    if c == 2 {
-        return 18;
+    if c == BOTTOM {
+        return NOTHING;
     }
-    if value { 16 } else { 17 }
+    if value { ITSELF_TRUE } else { ITSELF_FALSE }
 }
 
 // The source with the rows of the group g.
@@ -180,8 +187,8 @@ fn source_with(keys: &[u64; 179], g: usize, whole: Part, z: Sides, facts: Facts)
     let left = z.left;
     let right = z.right;
     Source {
-        first: field_of(row, 0),
-        count: field_of(row, 8),
+        first: field_of(row, FIRST),
+        count: field_of(row, COUNT),
         whole: whole,
         left: left,
         right: right,
@@ -189,101 +196,83 @@ fn source_with(keys: &[u64; 179], g: usize, whole: Part, z: Sides, facts: Facts)
     }
 }
 
-// The source with the relation at p.
+// The source with the relation at w.
 fn related(
     s: &[u8],
     rows: &[u64; 51],
     keys: &[u64; 179],
     types: &[u8],
-    p: usize,
-    end: usize,
+    w: Part,
     value: bool,
 ) -> Source
     requires { ⌜ now rows ≡ table ⌝ }
     requires { ⌜ now keys ≡ keyTable ⌝ }
-    requires { ⌜ relational (byteAt (now s) p) ≡ true ⌝ }
-    ensures { λ r. ⌜ r ≡ relatedBy (now (s .entry)) (now (types .entry)) p end value (sidesAt (now (s .entry)) p end) ⌝ }
+    requires { ⌜ relational (byteAt (now s) (w .at)) ≡ true ⌝ }
+    ensures { λ r. ⌜ r ≡ relatedBy (now (s .entry)) (now (types .entry)) w value (sidesAt (now (s .entry)) w) ⌝ }
 {
-    let z = sides_at(s, rows, p, end);
-    let l = z.left;
+    let z = sides_at(s, rows, w);
     let r = z.right;
-    let n = shape_number(byte_at(s, p), byte_at(s, r.at));
-    let whole = Part {
-        at: p,
-        len: gap(p, end),
-    };
-    source_with(
-        keys,
-        group_number(value, n),
-        whole,
-        z,
-        facts_at(s, rows, types, l.at, r.at),
-    )
+    let n = relation_number(byte_at(s, w.at), byte_at(s, r.at));
+    let facts = facts_at(s, rows, types, z.left, r);
+    source_with(keys, group_number(value, n), w, z, facts)
 }
 
-// The source with any other predicate at p.
-fn lone(s: &[u8], keys: &[u64; 179], p: usize, end: usize, value: bool) -> Source
+// The source with any other predicate at w.
+fn lone(s: &[u8], keys: &[u64; 179], w: Part, value: bool) -> Source
     requires { ⌜ now keys ≡ keyTable ⌝ }
-    ensures { λ r. ⌜ r ≡ loneBy (now (s .entry)) p end value ⌝ }
+    ensures { λ r. ⌜ r ≡ loneBy (now (s .entry)) w value ⌝ }
 {
-    let g = lone_number(value, byte_at(s, p));
-    let none = Part { at: 0, len: 0 };
-    let whole = Part {
-        at: p,
-        len: gap(p, end),
+    let g = lone_number(value, byte_at(s, w.at));
+    let none = Part { at: 0, end: 0 };
+    let sides = Sides {
+        left: none,
+        right: none,
     };
     let facts = Facts {
         kind: 0,
-        left: 0,
-        right: 0,
+        left: NO_LITERAL,
+        right: NO_LITERAL,
     };
-    source_with(
-        keys,
-        g,
-        whole,
-        Sides {
-            left: none,
-            right: none,
-        },
-        facts,
-    )
+    source_with(keys, g, w, sides, facts)
 }
 
-// The source with the predicate at p, which has no ¬.
+// The source with the predicate at w, which has no ¬.
 fn source_by(
     s: &[u8],
     rows: &[u64; 51],
     keys: &[u64; 179],
     types: &[u8],
-    p: usize,
-    end: usize,
+    w: Part,
     value: bool,
 ) -> Source
     requires { ⌜ now rows ≡ table ⌝ }
     requires { ⌜ now keys ≡ keyTable ⌝ }
-    ensures { λ r. ⌜ r ≡ sourceBy (now (s .entry)) (now (types .entry)) p end value ⌝ }
+    ensures { λ r. ⌜ r ≡ sourceBy (now (s .entry)) (now (types .entry)) w value ⌝ }
 {
-    if is_relational(byte_at(s, p)) {
-        return related(s, rows, keys, types, p, end, value);
+    if is_relational(byte_at(s, w.at)) {
+        return related(s, rows, keys, types, w, value);
     }
-    lone(s, keys, p, end, value)
+    lone(s, keys, w, value)
 }
 
-// The source with the predicate of s from `at` to `end`; hypotheses start true, goals false.
+// The source with the predicate at w in s; hypotheses start true, goals false.
 pub fn source_at(
     s: &[u8],
     rows: &[u64; 51],
     keys: &[u64; 179],
     types: &[u8],
-    at: usize,
-    end: usize,
+    w: Part,
     starts: bool,
 ) -> Source
     requires { ⌜ now rows ≡ table ⌝ }
     requires { ⌜ now keys ≡ keyTable ⌝ }
-    ensures { λ r. ⌜ r ≡ sourceAt (now (s .entry)) (now (types .entry)) at end starts ⌝ }
-    ensures { λ r. ⌜ SourceIs (now (s .entry)) (now (types .entry)) at end starts r ⌝ }
+    ensures { λ r. ⌜ SourceIs (now (s .entry)) (now (types .entry)) w starts r ⌝ }
+    ensures { λ r. ⌜ r ≡ sourceAt (now (s .entry)) (now (types .entry)) w starts ⌝ }
 {
-    let z = strip_at(s, at, starts);
-    source_by(s, rows, keys, types, z.at, end, z.value)
+    let z = strip_at(s, w.at, starts);
+    let bare = Part {
+        at: z.at,
+        end: w.end,
+    };
+    source_by(s, rows, keys, types, bare, z.value)
 }

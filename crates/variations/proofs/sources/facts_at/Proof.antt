@@ -1,10 +1,10 @@
-use Rattle.variations.proofs.RowLaws.{sources}
+use Rattle.variations.proofs.Laws.{sources}
 use borrow.Author.Needs.{needs}
 use Rattle.variations.proofs.sources.facts_at.Statement.{statement}
 use Rattle.variations.proofs.sources.facts_at.Tie as tie
 use Rattle.variations.proofs.sources.facts_at.Reads as reads
 use Rattle.variations.proofs.sources.facts_at.Lts as lts
-use Rattle.formula.proofs.shape.type_at.Reads as type-at-reads
+use Rattle.formula.proofs.skip.type_at.Reads as type-at-reads
 use Rattle.variations.proofs.sources.literal_at.Reads as literal-at-reads
 
 pub facts-at-spec : {M : Type 1} → statement M

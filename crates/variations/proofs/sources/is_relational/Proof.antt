@@ -1,4 +1,4 @@
-use Rattle.variations.proofs.SourceLaws.{numbers}
+use Rattle.variations.proofs.Laws.{numbers}
 use borrow.Author.Needs.{needs}
 use Rattle.variations.proofs.sources.is_relational.Statement.{statement}
 use Rattle.variations.proofs.sources.is_relational.Tie as tie

@@ -1,4 +1,4 @@
-use Rattle.variations.proofs.SourceLaws.{numbers}
+use Rattle.variations.proofs.Laws.{numbers}
 use borrow.Author.Needs.{needs}
 use Rattle.variations.proofs.sources.lone_number.Statement.{statement}
 use Rattle.variations.proofs.sources.lone_number.Tie as tie

@@ -1,10 +1,10 @@
-use Rattle.variations.proofs.RowLaws.{sources}
+use Rattle.variations.proofs.Laws.{sources}
 use borrow.Author.Needs.{needs}
 use Rattle.variations.proofs.sources.source_by.Statement.{statement}
 use Rattle.variations.proofs.sources.source_by.Tie as tie
 use Rattle.variations.proofs.sources.source_by.Reads as reads
 use Rattle.variations.proofs.sources.source_by.Lts as lts
-use Rattle.formula.proofs.node.byte_at.Reads as byte-at-reads
+use Rattle.formula.proofs.bytes.byte_at.Reads as byte-at-reads
 use Rattle.variations.proofs.sources.is_relational.Reads as is-relational-reads
 use Rattle.variations.proofs.sources.lone.Reads as lone-reads
 use Rattle.variations.proofs.sources.related.Reads as related-reads
