@@ -1,7 +1,7 @@
 -- Acts lose nothing, and give accepted sequents.
 use Prim.Native.Nat.{ℕ, _≤_}
 use mathlib.Core.Path.{_≡_, refl}
-use mathlib.Core.Bool.{Bool, true, false, _&&_}
+use mathlib.Core.Bool.{Bool, true, false}
 use mathlib.Core.List.{List, [], _∷_}
 use lib.ListN.{length}
 use lib.Dec.{ltb}
@@ -10,44 +10,17 @@ use Rattle.formula.specs.Pick.{pick}
 use Rattle.formula.specs.Tree.{Tree}
 use Rattle.formula.specs.Formula.{Formula}
 use Rattle.formula.specs.declared.Sort.the-variants as sort
-use Rattle.sequent.specs.Sequent.{Flag, plain, Hypothesis, Sequent, isVisible, among, flagIn, holds, present}
-use Rattle.sequent.specs.File.{encodeSequent}
+use Rattle.desk.specs.Sequent.{Flag, Sequent}
+use Rattle.desk.specs.File.{encodeSequent}
 use Rattle.sequent.specs.Accepted.{AcceptedSequent}
-use Rattle.acts.specs.Acts.{select, hide, change, addedFlag, inferredFlag, acted, flagAct, addOne, addAll, newGoal, modify, allPresent, inferOne, inferAll, infer, forward, hideAll, rewrite}
-use Rattle.sequent.specs.Outcome.{noRoom}
-use Rattle.sequent.proofs.Apart.{or-false}
-use Rattle.sequent.proofs.Formulas.{Each, each, each-append, formulasOf, each-formula, all-predicates}
-use Rattle.acts.proofs.Grown.{Grown, flags-grown, one-grown, then-grown, pick-grown, all-grown, change-grown}
-
--- ---- the steps of the acts
-module _ (P : Tree → Type 0) where
-  pub add-grown : (u : List Tree) (x : Tree) (hs : List Hypothesis) → P x → Grown P hs (addOne u x hs)
-  unfolding addOne
-  add-grown u x hs h = pick-grown P hs (present hs x) _ _ (λ e. change-grown P (addedFlag (among x u)) x hs) (λ e. one-grown P hs (addedFlag (among x u) plain) x e h)
-
-  pub adds-grown : (u xs : List Tree) (hs : List Hypothesis) → Each P xs → Grown P hs (addAll u xs hs)
-  unfolding addAll
-  adds-grown u = all-grown P P (addOne u) (addAll u) (λ hs. refl) (λ x xs hs. refl) (add-grown u)
-
-  module _ (before : List Hypothesis) (s d : Bool) where
-    pub infer-grown : (x : Tree) (hs : List Hypothesis) → P x → Grown P hs (inferOne before s d x hs)
-    unfolding inferOne
-    infer-grown x hs h =
-        pick-grown P hs (present hs x) _ _
-        (λ e. pick-grown P hs (s && holds isVisible (flagIn before x)) _ _ (λ v. change-grown P select x hs) (λ v. flags-grown P hs hs refl))
-        (λ e. one-grown P hs (inferredFlag s d) x e h)
-
-    pub infers-grown : (xs : List Tree) (hs : List Hypothesis) → Each P xs → Grown P hs (inferAll before s d xs hs)
-    unfolding inferAll
-    infers-grown = all-grown P P (inferOne before s d) (inferAll before s d) (λ hs. refl) (λ x xs hs. refl) infer-grown
-
-  pub inferred-grown : (hs : List Hypothesis) (sources inferred : List Tree) → Each P inferred → Grown P hs (infer hs sources inferred)
-  unfolding infer
-  inferred-grown hs sources inferred = infers-grown hs _ _ inferred hs
-
-  pub hides-grown : (xs : List Tree) (hs : List Hypothesis) → Grown P hs (hideAll xs hs)
-  unfolding hideAll
-  hides-grown xs hs = all-grown P (λ x. Unit {0}) (change hide) hideAll (λ hs. refl) (λ x xs hs. refl) (λ x hs u. change-grown P hide x hs) xs hs (each (λ x. Unit {0}) xs (λ x. tt))
+use Rattle.desk.specs.Hypotheses.{hide, allPresent, infer, changeAll}
+use Rattle.acts.specs.Acts.{acted, flagAct, newGoal, modify, forward, rewrite}
+use Rattle.buffers.specs.Outcome.{noRoom}
+use Rattle.desk.proofs.Apart.{or-false}
+use Rattle.desk.proofs.Formulas.{Each, each-append, formulasOf}
+use Rattle.sequent.proofs.Predicates.{each-formula, all-predicates}
+use Rattle.desk.proofs.Grown.{Grown, flags-grown, then-grown}
+use Rattle.desk.proofs.StepsGrow.{adds-grown, inferred-grown, changes-grown}
 
 -- ---- THE ACTS: nothing is lost; the types stay, and the goal becomes g
 pub record Kept (P : Tree → Type 0) (g : Tree) (q r : Sequent) : Type 0 where
@@ -58,7 +31,7 @@ pub record Kept (P : Tree → Type 0) (g : Tree) (q r : Sequent) : Type 0 where
 module _ (P : Tree → Type 0) (q : Sequent) where
   pub flag-kept : (f : Flag → Flag) (x : Tree) → Kept P (q .goal) q (flagAct f x q .sequent)
   unfolding flagAct acted
-  flag-kept f x = record { types-are = refl; grown = change-grown P f x (q .hypotheses); goal-is = refl }
+  flag-kept f x = record { types-are = refl; grown = changes-grown P f (x ∷ []) (q .hypotheses); goal-is = refl }
 
   pub modify-kept : (added unselected goal : List Tree) → Each P added → Kept P (newGoal goal (q .goal)) q (modify added unselected goal q .sequent)
   unfolding modify acted
@@ -70,18 +43,17 @@ module _ (P : Tree → Type 0) (q : Sequent) where
   unless-absent true changed r K = K
   unless-absent false changed r K = record { types-are = refl; grown = flags-grown P (q .hypotheses) (q .hypotheses) refl; goal-is = refl }
 
-  pub forward-kept : (sources inferred : List Tree) → Each P inferred → Kept P (q .goal) q (forward sources inferred q .sequent)
-  unfolding forward
-  forward-kept sources inferred E =
-      unless-absent (allPresent (q .hypotheses) sources) _ _ (record { types-are = refl; grown = inferred-grown P (q .hypotheses) sources inferred E; goal-is = refl })
-
   pub rewrite-kept : (sources inferred toHide : List Tree) → Each P inferred → Kept P (q .goal) q (rewrite sources inferred toHide q .sequent)
   unfolding rewrite
   rewrite-kept sources inferred toHide E =
       let hs = q .hypotheses in
       let ks = infer hs sources inferred in
       unless-absent (allPresent hs sources) _ _
-      (record { types-are = refl; grown = then-grown P hs ks (hideAll toHide ks) (inferred-grown P hs sources inferred E) (hides-grown P toHide ks); goal-is = refl })
+      (record { types-are = refl; grown = then-grown P hs ks (changeAll hide toHide ks) (inferred-grown P hs sources inferred E) (changes-grown P hide toHide ks); goal-is = refl })
+
+  pub forward-kept : (sources inferred : List Tree) → Each P inferred → Kept P (q .goal) q (forward sources inferred q .sequent)
+  unfolding forward
+  forward-kept sources inferred = rewrite-kept sources inferred []
 
 -- ---- ACCEPTED sequents, where there is room
 pub room-left : (room : ℕ) (r : Sequent) → noRoom room r ≡ false → (length (r .hypotheses) ≤ 64) × (length (encodeSequent r) ≤ 60000) × (length (encodeSequent r) ≤ room)

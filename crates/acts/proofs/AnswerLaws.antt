@@ -1,32 +1,38 @@
 -- Buffers read one after the other: the first refusal is the answer.
 use Prim.Native.Nat.{ℕ, _+_, _≤_}
-use mathlib.Core.Path.{_≡_, refl, sym, ap, _∙_}
-use mathlib.Core.List.{List}
+use mathlib.Core.Path.{_≡_, refl, sym, ap, _∙_, subst}
+use mathlib.Core.List.{List, _++_}
 use native.Mathlib.Omega.{arith}
-use lib.ListN.{length}
+use lib.ListN.{length, take, drop}
+use lib.Seq.{sets, slice, take-all, length-sets, length-take-le, take-at, drop-at}
 use mir.Syntax.{w64}
 use mir.Val.{Fits}
 use Rattle.formula.specs.Tree.{Tree}
-use Rattle.formula.specs.declared.Said.{Said}
-use Rattle.sequent.specs.Sequent.{Flag, Sequent}
+use Rattle.refusal.specs.declared.Said.{Said}
+use Rattle.desk.specs.Sequent.{Flag, Sequent}
+use Rattle.desk.specs.declared.View.{View}
+use Rattle.desk.proofs.Laid.{same-part, sets-split}
+use Rattle.desk.proofs.DeskLaws.{copy-done, copies}
 use Rattle.sequent.specs.ReadFile.{readSequent}
-use Rattle.sequent.specs.Lent.{lentPredicate, lentList}
-use Rattle.sequent.specs.Outcome.{Outcome, refuses, onBuffer, onList}
-use Rattle.acts.specs.Outcomes.{flagOutcome, modifyOutcome, forwardOutcome, rewriteOutcome}
-use Rattle.sequent.specs.Desk.{Open, Not, OpenedIs, LentIs, Lists, ListedIs}
-use Rattle.acts.specs.Steps.{Answers, typesIn, IsLent, TwoAre, ThreeAre}
-use Rattle.sequent.specs.declared.View.{View}
-use Rattle.sequent.specs.declared.Done.the-variants as done
+use Rattle.buffers.specs.Lent.{lentPredicate, lentList}
+use Rattle.buffers.specs.Outcome.{Outcome, refuses, onBuffer}
+use Rattle.sequent.specs.Mirror.Opened.{Open, Not, OpenedIs}
+use Rattle.buffers.specs.Mirror.Buffers.{LentIs, Lists, ListedIs}
+use Rattle.buffers.specs.declared.Done.{Done}
+use Rattle.buffers.specs.declared.Done.the-variants as done
 use Rattle.sequent.specs.declared.Opened.{Opened}
 use Rattle.sequent.specs.declared.Opened.the-variants as opened
-use Rattle.sequent.specs.declared.Lent.{Lent}
-use Rattle.sequent.specs.declared.Lent.the-variants as lent
-use Rattle.sequent.specs.declared.Listed.{Listed}
-use Rattle.sequent.specs.declared.Listed.the-variants as listed
-use Rattle.acts.specs.declared.ListedTwo.{ListedTwo}
-use Rattle.acts.specs.declared.ListedTwo.the-variants as two
-use Rattle.acts.specs.declared.ListedThree.{ListedThree}
-use Rattle.acts.specs.declared.ListedThree.the-variants as three
+use Rattle.buffers.specs.declared.Lent.{Lent}
+use Rattle.buffers.specs.declared.Lent.the-variants as lent
+use Rattle.buffers.specs.declared.Listed.{Listed}
+use Rattle.buffers.specs.declared.Listed.the-variants as listed
+use Rattle.buffers.proofs.Listings.{lists-listing}
+use Rattle.acts.specs.Outcomes.{flagOutcome, mostOf, own, listsOutcome}
+use Rattle.acts.specs.Mirror.Driver.{Answers, typesIn, IsLent, part, StartsPut, ListPut, ThreeRead, ThreeAre, Few, OwnAnswers}
+use Rattle.acts.specs.declared.Kind.{Kind}
+use Rattle.acts.specs.declared.Three.{Three}
+use Rattle.acts.specs.declared.ListsRead.{ListsRead}
+use Rattle.acts.specs.declared.ListsRead.the-variants as lists
 use Rattle.acts.proofs.Ranges.{types-end, types-there}
 
 pub refusal-answers : (o : Outcome) (z : Said) (out : List ℕ) → o ≡ refuses z → Answers o out out (done.Refused z)
@@ -50,8 +56,8 @@ listed-read : (types : List ℕ) (most : ℕ) (b starts : List ℕ) (l : Listed)
 listed-read types most b starts l n e L = rw e at L
 
 module _ (s places : List ℕ) (v : View) (O : Open s places v) where
-  pub types-fit : Fits w64 (8 + v .t)
-  types-fit = record { fits = omega (arith, O .held .t-is, O .accepted .few-types) }
+  pub types-fit : Fits w64 (8 + v .identifiers)
+  types-fit = record { fits = omega (arith, O .held .identifiers-are, O .accepted .few-types) }
 
   pub opened-is : (K : Sequent → Outcome) → onBuffer s (readSequent s) K ≡ K (O .sequent)
   opened-is K = rw (O .read-is) refl
@@ -72,27 +78,15 @@ list-no types most b starts l z e L K =
     let N : Not b (lentList types most b) z = rw e at L in
     rw (N .refused-is) (ap refuses (sym (N .said-is)))
 
-module _ (s places : List ℕ) (v : View) (O : Open s places v) where
-  pub lists-are : (most : ℕ) (b starts : List ℕ) (n : ℕ) (L : Lists (typesIn s v) most b starts n) (K : List Tree → Outcome) → onList (O .sequent) most b K ≡ K (L .formulas)
-  lists-are most b starts n L K = rw (← types-there s places v O, L .read-is) refl
-
 -- ---- a sequent that is refused
 module _ (s places out : List ℕ) (o : Opened) (z : Said) (e : o ≡ opened.Refused z) (O : OpenedIs s places o) where
   pub flag-open-no : (f : Flag → Flag) (b : List ℕ) → Answers (flagOutcome f s b (length out)) out out (done.Refused z)
   unfolding flagOutcome
   flag-open-no f b = refusal-answers _ z out (opened-no s places o z e O _)
 
-  pub forward-open-no : (a b : List ℕ) → Answers (forwardOutcome s a b (length out)) out out (done.Refused z)
-  unfolding forwardOutcome
-  forward-open-no a b = refusal-answers _ z out (opened-no s places o z e O _)
-
-  pub rewrite-open-no : (a b c : List ℕ) → Answers (rewriteOutcome s a b c (length out)) out out (done.Refused z)
-  unfolding rewriteOutcome
-  rewrite-open-no a b c = refusal-answers _ z out (opened-no s places o z e O _)
-
-  pub modify-open-no : (a u g : List ℕ) → Answers (modifyOutcome s a u g (length out)) out out (done.Refused z)
-  unfolding modifyOutcome
-  modify-open-no a u g = refusal-answers _ z out (opened-no s places o z e O _)
+  pub lists-open-no : (kind : Kind) (a b c : List ℕ) → Answers (listsOutcome kind s a b c (length out)) out out (done.Refused z)
+  unfolding listsOutcome
+  lists-open-no kind a b c = refusal-answers _ z out (opened-no s places o z e O _)
 
 -- ---- a lent formula that is refused
 pub flag-lent-no : (s places out : List ℕ) (v : View) (f : Flag → Flag) (b : List ℕ) (l : Lent) (z : Said) → l ≡ lent.Refused z → Open s places v → LentIs (typesIn s v) b l
@@ -100,87 +94,96 @@ pub flag-lent-no : (s places out : List ℕ) (v : View) (f : Flag → Flag) (b :
 unfolding flagOutcome
 flag-lent-no s places out v f b l z e O L = refusal-answers _ z out (opened-is s places v O _ ∙ lent-no s places v O b l z e L _)
 
--- ---- lists one after the other
-module _ (types a a-starts b b-starts : List ℕ) where
-  pub two-first-no : (l : Listed) (z : Said) → l ≡ listed.Refused z → ListedIs types 64 a a-starts l → TwoAre types a a-starts b b-starts (two.Refused z)
-  unfolding TwoAre
-  two-first-no l z e A k = list-no types 64 a a-starts l z e A _
+-- ---- one list: its starts put among those of all
+module _ (one : List ℕ) (from : ℕ) (starts : List ℕ) (long : length one ≡ 65) where
+  pub starts-begin : sets starts from (slice 0 65 one) ≡ sets starts from one
+  starts-begin = ap (sets starts from) (take-all 65 one (omega arith))
 
-  module _ (l : Listed) (n : ℕ) (e : l ≡ listed.Read n) (L : ListedIs types 64 a a-starts l) (l′ : Listed) (L′ : ListedIs types 64 b b-starts l′) where
-    pub two-second-no : (z : Said) → l′ ≡ listed.Refused z → TwoAre types a a-starts b b-starts (two.Refused z)
-    unfolding TwoAre
-    two-second-no z e′ k = list-is types 64 a a-starts n (listed-read types 64 a a-starts l n e L) _ ∙ list-no types 64 b b-starts l′ z e′ L′ _
+  pub starts-end : (now : List ℕ) (i j : ℕ) → sets now j (slice i 65 one) ≡ sets starts from one → i ≤ 65 → 65 ≤ i → from + 65 ≤ length starts → StartsPut one from starts now
+  starts-end now i j e h k m = record { put-is = copy-done now one j i 65 (sets starts from one) h k e; one-long = long; inside = m }
 
-    pub two-read : (m : ℕ) → l′ ≡ listed.Read m → TwoAre types a a-starts b b-starts (two.Read n m)
-    unfolding TwoAre
-    two-read m e′ = (listed-read types 64 a a-starts l n e L, listed-read types 64 b b-starts l′ m e′ L′)
+pub ruleset starts-copied = (starts-begin, starts-end, copies)
 
-  module _ (most : ℕ) (c c-starts : List ℕ) (t : ListedTwo) (T : TwoAre types a a-starts b b-starts t) where
-    pub three-two-no : (z : Said) → t ≡ two.Refused z → ThreeAre types most a a-starts b b-starts c c-starts (three.Refused z)
-    unfolding TwoAre ThreeAre
-    three-two-no z e k =
-        let N = rw e at T in
-        N (λ xs ys. onBuffer c (lentList types most c) (k xs ys))
+pub list-put : (types : List ℕ) (most : ℕ) (b one : List ℕ) (from : ℕ) (starts starts′ : List ℕ) (r : Listed) → ListedIs types most b one r → StartsPut one from starts starts′ → ListPut types most b from starts starts′ r
+list-put types most b one from starts starts′ r L P =
+    let n = P .one-long in
+    let i = P .inside in
+    let split : starts′ ≡ take from starts ++ (one ++ drop (from + length one) starts) = P .put-is ∙ sets-split one starts from (omega arith) in
+    let front : length (take from starts) ≡ from = length-take-le from starts (omega arith) in
+    let there : part from starts′ ≡ one =
+    ap (part from) split ∙ ap (take 65) (drop-at (take from starts) (one ++ drop (from + length one) starts) from front) ∙ take-at one (drop (from + length one) starts) 65 n in
+    record {
+      listed-is = subst (λ (l : List ℕ). ListedIs types most b l r) (sym there) L;
+      before-kept = ap (take from) split ∙ take-at (take from starts) (one ++ drop (from + length one) starts) from front;
+      as-long = ap length (P .put-is) ∙ length-sets starts from one;
+    }
 
-    module _ (n m : ℕ) (e : t ≡ two.Read n m) (l : Listed) (L : ListedIs types most c c-starts l) where
-      pub three-no : (z : Said) → l ≡ listed.Refused z → ThreeAre types most a a-starts b b-starts c c-starts (three.Refused z)
-      unfolding TwoAre ThreeAre
-      three-no z e′ k =
-          let B = rw e at T in
-          list-is types 64 a a-starts n (B .0) _ ∙ list-is types 64 b b-starts m (B .1) _ ∙ list-no types most c c-starts l z e′ L _
+-- ---- three lists, one after the other
+module _ (types : List ℕ) (most : ℕ) (a b c s₀ s₁ : List ℕ) (l : Listed) (L : ListPut types 64 a 0 s₀ s₁ l) where
+  pub three-first-no : (z : Said) → l ≡ listed.Refused z → ThreeAre types most a b c s₁ (lists.Refused z)
+  unfolding ThreeAre
+  three-first-no z e k = list-no types 64 a (part 0 s₁) l z e (L .listed-is) _
 
-      pub three-read : (k : ℕ) → l ≡ listed.Read k → ThreeAre types most a a-starts b b-starts c c-starts (three.Read n m k)
-      unfolding TwoAre ThreeAre
-      three-read k e′ =
-          let B = rw e at T in
-          (B .0, B .1, listed-read types most c c-starts l k e′ L)
-
-pub ruleset twos = (two-first-no, two-second-no, two-read)
-
-pub ruleset threes = (three-two-no, three-no, three-read)
-
--- what was read of them
-module _ (types a a-starts b b-starts : List ℕ) where
-  module _ (t : ListedTwo) (n m : ℕ) (e : t ≡ two.Read n m) (T : TwoAre types a a-starts b b-starts t) where
-    pub two-are : Lists types 64 a a-starts n × Lists types 64 b b-starts m
-    unfolding TwoAre
-    two-are = rw e at T
-
-  module _ (most : ℕ) (c c-starts : List ℕ) (t : ListedThree) (n m k : ℕ) (e : t ≡ three.Read n m k) (T : ThreeAre types most a a-starts b b-starts c c-starts t) where
-    pub three-are : Lists types 64 a a-starts n × Lists types 64 b b-starts m × Lists types most c c-starts k
+  module _ (n : ℕ) (e : l ≡ listed.Read n) (s₂ : List ℕ) (l′ : Listed) (L′ : ListPut types 64 b 65 s₁ s₂ l′) where
+    pub three-second-no : (z : Said) → l′ ≡ listed.Refused z → ThreeAre types most a b c s₂ (lists.Refused z)
     unfolding ThreeAre
-    three-are = rw e at T
+    three-second-no z e′ k =
+        list-is types 64 a (part 0 s₁) n (listed-read types 64 a (part 0 s₁) l n e (L .listed-is)) _ ∙ list-no types 64 b (part 65 s₂) l′ z e′ (L′ .listed-is) _
 
--- .. so many
-module _ (types a a-starts b b-starts : List ℕ) where
-  module _ (t : ListedTwo) (n m : ℕ) (e : t ≡ two.Read n m) (T : TwoAre types a a-starts b b-starts t) where
-    pub two-few : (n ≤ 64) × (m ≤ 64)
-    two-few = let L = two-are types a a-starts b b-starts t n m e T in (L .0 .few, L .1 .few)
+    module _ (m : ℕ) (e′ : l′ ≡ listed.Read m) (s₃ : List ℕ) (l″ : Listed) (L″ : ListPut types most c 130 s₂ s₃ l″) where
+      pub three-third-no : (z : Said) → l″ ≡ listed.Refused z → ThreeAre types most a b c s₃ (lists.Refused z)
+      unfolding ThreeAre
+      three-third-no z e″ k =
+          list-is types 64 a (part 0 s₁) n (listed-read types 64 a (part 0 s₁) l n e (L .listed-is)) _
+          ∙ list-is types 64 b (part 65 s₂) m (listed-read types 64 b (part 65 s₂) l′ m e′ (L′ .listed-is)) _
+          ∙ list-no types most c (part 130 s₃) l″ z e″ (L″ .listed-is) _
 
-  module _ (most : ℕ) (c c-starts : List ℕ) (t : ListedThree) (n m k : ℕ) (e : t ≡ three.Read n m k) (T : ThreeAre types most a a-starts b b-starts c c-starts t) where
-    pub three-few : (n ≤ 64) × (m ≤ 64) × (k ≤ most)
-    three-few = let L = three-are types a a-starts b b-starts most c c-starts t n m k e T in (L .0 .few, L .1 .few, L .2 .few)
+      pub three-read : (k : ℕ) → l″ ≡ listed.Read k → ThreeAre types most a b c s₃ (lists.Read (record { first = n; second = m; third = k }))
+      unfolding ThreeAre
+      three-read k e″ =
+          let first : part 0 s₃ ≡ part 0 s₁ = same-part s₂ s₃ 0 65 130 (L″ .before-kept) (omega arith) ∙ same-part s₁ s₂ 0 65 65 (L′ .before-kept) (omega arith) in
+          let second : part 65 s₃ ≡ part 65 s₂ = same-part s₂ s₃ 65 65 130 (L″ .before-kept) (omega arith) in
+          record {
+            first-is = subst (λ (x : List ℕ). Lists types 64 a x n) (sym first) (listed-read types 64 a (part 0 s₁) l n e (L .listed-is));
+            second-is = subst (λ (x : List ℕ). Lists types 64 b x m) (sym second) (listed-read types 64 b (part 65 s₂) l′ m e′ (L′ .listed-is));
+            third-is = listed-read types most c (part 130 s₃) l″ k e″ (L″ .listed-is);
+          }
 
--- ---- lists that are refused
-module _ (s places : List ℕ) (v : View) (O : Open s places v) (out a a-starts b b-starts : List ℕ) where
-  pub forward-lists-no : (t : ListedTwo) (z : Said) → t ≡ two.Refused z → TwoAre (typesIn s v) a a-starts b b-starts t → Answers (forwardOutcome s a b (length out)) out out (done.Refused z)
-  unfolding forwardOutcome TwoAre
-  forward-lists-no t z e T =
-      let N = rw (e, types-there s places v O) at T in
+pub ruleset threes = (three-first-no, three-second-no, three-third-no, three-read)
+
+-- ---- what was read of them
+module _ (types : List ℕ) (most : ℕ) (a b c starts : List ℕ) (t : ListsRead) (T : ThreeAre types most a b c starts t) where
+  pub three-are : (n : Three) → t ≡ lists.Read n → ThreeRead types most a b c starts n
+  unfolding ThreeAre
+  three-are n e = rw e at T
+
+  pub three-few : (n : Three) → t ≡ lists.Read n → most ≤ 64 → Few n
+  three-few n e h =
+      let R = three-are n e in
+      let k = R .third-is .few in
+      record { few-first = R .first-is .few; few-second = R .second-is .few; few-third = omega arith }
+
+-- ---- the whole act
+module _ (s places : List ℕ) (v : View) (O : Open s places v) (kind : Kind) (m : ℕ) (m≡ : m ≡ mostOf kind) (a b c starts : List ℕ) (t : ListsRead) (T : ThreeAre (typesIn s v) m a b c starts t) (out : List ℕ) where
+  pub lists-no : (z : Said) → t ≡ lists.Refused z → Answers (listsOutcome kind s a b c (length out)) out out (done.Refused z)
+  unfolding listsOutcome ThreeAre
+  lists-no z e =
+      let N = rw (e, m≡, types-there s places v O) at T in
       refusal-answers _ z out (opened-is s places v O _ ∙ N _)
 
-  module _ (c c-starts : List ℕ) (t : ListedThree) (z : Said) (e : t ≡ three.Refused z) where
-    pub rewrite-lists-no : ThreeAre (typesIn s v) 64 a a-starts b b-starts c c-starts t → Answers (rewriteOutcome s a b c (length out)) out out (done.Refused z)
-    unfolding rewriteOutcome ThreeAre
-    rewrite-lists-no T =
-        let N = rw (e, types-there s places v O) at T in
-        refusal-answers _ z out (opened-is s places v O _ ∙ N _)
-
-    pub modify-lists-no : ThreeAre (typesIn s v) 1 a a-starts b b-starts c c-starts t → Answers (modifyOutcome s a b c (length out)) out out (done.Refused z)
-    unfolding modifyOutcome ThreeAre
-    modify-lists-no T =
-        let N = rw (e, types-there s places v O) at T in
-        refusal-answers _ z out (opened-is s places v O _ ∙ N _)
+  pub lists-done : (k : Kind) (n : Three) (out′ : List ℕ) (z : Done) → kind ≡ k → t ≡ lists.Read n → OwnAnswers k s a b c starts n out out′ z → Answers (listsOutcome kind s a b c (length out)) out out′ z
+  unfolding listsOutcome OwnAnswers
+  lists-done k n out′ z k≡ e F =
+      let R = rw (m≡, types-there s places v O) at (three-are (typesIn s v) m a b c starts t T n e) in
+      let A = R .first-is in
+      let B = R .second-is in
+      let C = R .third-is in
+      let types = O .sequent .types in
+      let f = F (O .sequent) (O .at-end) (A .formulas) (B .formulas) (C .formulas) (O .read-is) (lists-listing a types 64 (part 0 starts) (n .first) A) (lists-listing b types 64 (part 65 starts) (n .second) B)
+      (lists-listing c types (mostOf kind) (part 130 starts) (n .third) C) in
+      let o : listsOutcome kind s a b c (length out) ≡ own kind (A .formulas) (B .formulas) (C .formulas) (O .sequent) (length out)
+      = opened-is s places v O _ ∙ list-is types 64 a (part 0 starts) (n .first) A _ ∙ list-is types 64 b (part 65 starts) (n .second) B _ ∙ list-is types (mostOf kind) c (part 130 starts) (n .third) C _ in
+      rw (o, k≡) f
 
 pub ruleset reads = (opened-read, lent-read, types-fit, types-end)
 

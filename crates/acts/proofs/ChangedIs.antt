@@ -6,15 +6,22 @@ use mathlib.Core.List.{List, [], _∷_, _++_, append-assoc, append-nil, nil≢co
 use native.Mathlib.Omega.{arith}
 use lib.ListN.{length, length-append}
 use lib.Dec.{eqb}
-use borrow.Author.Tests.{eq-eqb, eqb-true}
+use borrow.Author.Tests.{eq-eqb, eqb-true, not-false}
 use Rattle.formula.specs.Pick.{pick}
 use Rattle.formula.specs.Tree.{Tree, encode}
-use Rattle.sequent.specs.Sequent.{Flag, Hypothesis, Sequent, isHidden, isSelected, sameBytes, same}
-use Rattle.sequent.specs.File.{hypothesesBytes, encodeSequent}
-use Rattle.acts.specs.Acts.{differs, acted, flagAct, modify, allPresent, someSelected, reselects, forward, rewrite}
-use Rattle.sequent.specs.Desk.{maskOf}
-use Rattle.sequent.proofs.Formulas.{formulasOf, formulas-long}
-use Rattle.sequent.proofs.FlagsAre.{sameFlag, flagsDiffer, masks-differ}
+use Rattle.desk.specs.Sequent.{Flag, Hypothesis, Sequent, isHidden, isSelected}
+use Rattle.formula.specs.Equal.{sameBytes, same}
+use Rattle.desk.specs.File.{hypothesesBytes, encodeSequent}
+use Rattle.acts.specs.Acts.{differs, acted, flagAct, modify, forward, rewrite}
+use Rattle.desk.specs.Hypotheses.{allPresent, someSelected, reselects}
+use Rattle.desk.specs.Mirror.Desk.{maskOf}
+use Rattle.desk.proofs.Formulas.{formulasOf, formulas-long}
+use Rattle.desk.proofs.FlagsAre.{sameFlag, flagsDiffer, masks-differ}
+use Rattle.formula.proofs.SameBytes.{same-bytes-refl, same-bytes-is}
+use Rattle.sequent.specs.Accepted.{AcceptedSequent}
+use Rattle.buffers.specs.Outcome.{noRoom}
+use Rattle.sequent.proofs.FileIs.{sequent-one}
+use Rattle.acts.proofs.ActsKeep.{flag-accepted}
 
 -- bytes that begin alike
 same-prefix : (a x y : List ℕ) → sameBytes (a ++ x) (a ++ y) ≡ sameBytes x y
@@ -94,6 +101,19 @@ module _ (q r : Sequent) (types-are : r .types ≡ q .types) (further : List Tre
       go true e = rw (masks-differ hs ks (eqb-true (length hs) (length ks) e)) (regroup (not (eqb (maskOf isHidden hs) (maskOf isHidden ks))) (not (eqb (maskOf isSelected hs) (maskOf isSelected ks))) (not (same (q .goal) (r .goal))))
       go false e = first (flagsDiffer hs ks) (not (same (q .goal) (r .goal)))
 
+-- ---- accepted sequents differ just if they are not equal
+pub never-differs : (q : Sequent) → differs q q ≡ false
+unfolding differs
+never-differs q = rw (same-bytes-refl (encodeSequent q)) refl
+
+module _ (q r : Sequent) where
+  pub not-differs : AcceptedSequent q → AcceptedSequent r → differs q r ≡ false → q ≡ r
+  unfolding differs
+  not-differs A B e = sequent-one q r A B (same-bytes-is (encodeSequent q) (encodeSequent r) (not-false _ e))
+
+  pub equal-same : q ≡ r → differs q r ≡ false
+  equal-same e = rw (← e) (never-differs q)
+
 -- ---- what the acts answer: "changed", besides a present formula that forward inference selects
 module _ (q : Sequent) where
   pub flag-changed : (f : Flag → Flag) (x : Tree) → flagAct f x q .changed ≡ differs q (flagAct f x q .sequent)
@@ -109,12 +129,16 @@ module _ (q : Sequent) where
   unless-absent true c r = refl
   unless-absent false c r = refl
 
-  pub forward-changed : (sources inferred : List Tree) → forward sources inferred q .changed
-      ≡ ((allPresent (q .hypotheses) sources && reselects (q .hypotheses) (someSelected (q .hypotheses) sources) inferred) || differs q (forward sources inferred q .sequent))
-  unfolding forward
-  forward-changed sources inferred = unless-absent (allPresent (q .hypotheses) sources) _ _
-
   pub rewrite-changed : (sources inferred toHide : List Tree) → rewrite sources inferred toHide q .changed
       ≡ ((allPresent (q .hypotheses) sources && reselects (q .hypotheses) (someSelected (q .hypotheses) sources) inferred) || differs q (rewrite sources inferred toHide q .sequent))
   unfolding rewrite
   rewrite-changed sources inferred toHide = unless-absent (allPresent (q .hypotheses) sources) _ _
+
+  pub forward-changed : (sources inferred : List Tree) → forward sources inferred q .changed
+      ≡ ((allPresent (q .hypotheses) sources && reselects (q .hypotheses) (someSelected (q .hypotheses) sources) inferred) || differs q (forward sources inferred q .sequent))
+  unfolding forward
+  forward-changed sources inferred = rewrite-changed sources inferred []
+
+-- an act on a flag that answers "not changed" gives the same sequent
+pub flag-unchanged : (q : Sequent) → AcceptedSequent q → (room : ℕ) (f : Flag → Flag) (x : Tree) → noRoom room (flagAct f x q .sequent) ≡ false → flagAct f x q .changed ≡ false → q ≡ flagAct f x q .sequent
+flag-unchanged q A room f x n e = not-differs q (flagAct f x q .sequent) A (flag-accepted q A room f x n) (sym (flag-changed q f x) ∙ e)

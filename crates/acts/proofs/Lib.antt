@@ -1,17 +1,16 @@
-pub mod Grown
+-- What the crate proves. The theorems for callers: ActsKeep and ChangedIs.
+--   ActsKeep      acts lose nothing, and give accepted sequents where there is room
+--   ChangedIs     when an act answers "changed"; an accepted sequent that does not differ is the same
+--   ViewLaws      views differ just if their sequents do
+--   Ranges        the parts of an opened sequent and of a lent buffer
+--   AnswerLaws    buffers read one after the other: the first refusal is the answer
+--   FlagLaws      an act on one flag
+--   RewriteLaws   rewrite, of lists that are read; ModifyLaws: modify
 pub mod ActsKeep
 pub mod ChangedIs
--- the acts on the desk: a formula at its position, ranges, lists, room
-pub mod AtPosition
-pub mod Positions
 pub mod Ranges
-pub mod Listings
-pub mod Room
--- the laws of the acts' code
 pub mod ViewLaws
 pub mod AnswerLaws
 pub mod FlagLaws
-pub mod SourceLaws
-pub mod InferLaws
 pub mod RewriteLaws
 pub mod ModifyLaws

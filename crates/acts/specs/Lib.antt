@@ -1,3 +1,4 @@
 pub mod Acts
 pub mod Outcomes
-pub mod Steps
+-- what mirrors the code
+pub mod Mirror

@@ -1,53 +1,38 @@
 // The acts on hypotheses of document 01 (sequent.rs).
-pub mod adding;
+pub mod driver;
 pub mod flags;
-pub mod infer;
-pub mod infer_lent;
 pub mod lists;
+pub mod modifying;
+pub mod rewriting;
 
 ghost use mathlib.Core.Path.{_≡_};
 ghost use lib.ListN.{length};
-ghost use Rattle.sequent.specs.Outcome.{answerOf, written};
+ghost use Rattle.buffers.specs.Outcome.{answerOf, written};
 ghost use Rattle.acts.specs.Acts as Acts;
 ghost use Rattle.acts.specs.Outcomes.{flagOutcome, modifyOutcome, forwardOutcome, rewriteOutcome};
-use adding::modify_over;
+use buffers::Done;
+use driver::act_over;
 use flags::flag;
-use formula::Said;
-use infer_lent::forward_over;
-use infer_lent::rewrite_over;
-use sequent::Done;
-use sequent::View;
+use refusal::Said;
+use steps::Act;
 
-// The acts on one flag.
-pub enum Act {
-    Select,
-    Deselect,
-    Hide,
-    Show,
+// The acts that take three lists.
+pub enum Kind {
+    Modify,
+    Rewrite,
 }
 
-// Lent lists read one after the other: how many formulas each has.
-pub enum ListedTwo {
-    Read(usize, usize),
+// How many formulas each of three lists has.
+pub struct Three {
+    pub first: usize,
+    pub second: usize,
+    pub third: usize,
+}
+
+// Three lists read, or the first refusal.
+pub enum ListsRead {
+    Read(Three),
     Refused(Said),
-}
-
-pub enum ListedThree {
-    Read(usize, usize, usize),
-    Refused(Said),
-}
-
-// What the sources of an inference say: each is there, some is selected, all are hidden.
-pub struct Sources {
-    pub there: bool,
-    pub selected: bool,
-    pub hidden: bool,
-}
-
-// Formulas inferred, and whether one that was visible was reselected; or no room for them.
-pub enum Inferred {
-    Done(View, bool),
-    NoRoom,
 }
 
 // "Select sets selected and clears hidden."
@@ -88,7 +73,7 @@ pub fn modify(s: &[u8], added: &[u8], unselected: &[u8], goal: &[u8], out: &mut 
     ensures { λ r. ⌜ now (out .exit) ≡ written (modifyOutcome (now (s .entry)) (now (added .entry)) (now (unselected .entry)) (now (goal .entry)) (length (now (out .entry)))) (now (out .entry)) ⌝ }
 {
     let mut desk = [0u8; 60000];
-    modify_over(s, added, unselected, goal, &mut desk, out)
+    act_over(Kind::Modify, s, added, unselected, goal, &mut desk, out)
 }
 
 // "Forward inference takes sources and inferred formulas."
@@ -97,7 +82,8 @@ pub fn forward(s: &[u8], sources: &[u8], inferred: &[u8], out: &mut [u8]) -> Don
     ensures { λ r. ⌜ now (out .exit) ≡ written (forwardOutcome (now (s .entry)) (now (sources .entry)) (now (inferred .entry)) (length (now (out .entry)))) (now (out .entry)) ⌝ }
 {
     let mut desk = [0u8; 60000];
-    forward_over(s, sources, inferred, &mut desk, out)
+    let none = [0u8; 1];
+    act_over(Kind::Rewrite, s, sources, inferred, &none, &mut desk, out)
 }
 
 // "Rewrite is forward inference, then hide, unless a source was absent."
@@ -106,5 +92,5 @@ pub fn rewrite(s: &[u8], sources: &[u8], inferred: &[u8], hide: &[u8], out: &mut
     ensures { λ r. ⌜ now (out .exit) ≡ written (rewriteOutcome (now (s .entry)) (now (sources .entry)) (now (inferred .entry)) (now (hide .entry)) (length (now (out .entry)))) (now (out .entry)) ⌝ }
 {
     let mut desk = [0u8; 60000];
-    rewrite_over(s, sources, inferred, hide, &mut desk, out)
+    act_over(Kind::Rewrite, s, sources, inferred, hide, &mut desk, out)
 }

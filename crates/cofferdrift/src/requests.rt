@@ -2,8 +2,8 @@
 ghost use Rattle.io.specs.Counts.{Counts};
 use super::files;
 use super::words;
+use buffers::Done;
 use sequent::Counted;
-use sequent::Done;
 
 // The sequent that argument 2 names: how many bytes, or none where it was answered already.
 fn load_sequent(file: &mut [u8]) -> files::Loaded

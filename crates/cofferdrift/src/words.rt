@@ -1,8 +1,8 @@
 // What the program says.
 ghost use mathlib.Core.Bool.{true};
 ghost use mathlib.Core.Path.{_≡_};
-use formula::Said;
 use libc::STDOUT_FILENO;
+use refusal::Said;
 
 // Whether a word is the one named.
 pub fn is(a: &[u8], b: &[u8]) -> bool

@@ -7,15 +7,17 @@ use native.Mathlib.Omega.{arith}
 use lib.ListN.{length, getD, drop, length-append}
 use lib.Dec.{ltb, leb}
 use borrow.Author.Tests.{leb-false, ltb-false}
+use Rattle.formula.specs.Reading.{Parsed}
 use Rattle.formula.specs.Tree.{encode}
 use Rattle.formula.proofs.Places.{AllBytes, one-more}
 use Rattle.formula.proofs.Choices.{none-some}
-use Rattle.sequent.specs.Sequent.{Flag, plain, hidden, selected, Hypothesis, present}
-use Rattle.sequent.specs.File.{flagByte, hypothesesBytes}
-use Rattle.sequent.specs.Accepted.{TypeBytes, Predicates, Different}
-use Rattle.sequent.specs.ReadFile.{Seen, flagOf, predicateAt, typesAt, onFlag, hypothesesAt}
-use Rattle.sequent.proofs.Apart.{one-apart, one-predicate, bytes-append}
-use Rattle.sequent.proofs.SeenIs.{OfSeen, on-seen, so-seen, unless, Stood, predicate-stood}
+use Rattle.desk.specs.Sequent.{Flag, plain, hidden, selected, Hypothesis, present, Different, hypothesis}
+use Rattle.desk.specs.File.{flagByte, hypothesesBytes}
+use Rattle.sequent.specs.Accepted.{TypeBytes, Predicates}
+use Rattle.sequent.specs.ReadFile.{flagOf, predicateAt, typesAt, onFlag, hypothesesAt}
+use Rattle.desk.proofs.Apart.{one-apart, bytes-append}
+use Rattle.sequent.proofs.Predicates.{one-predicate}
+use Rattle.sequent.proofs.SeenIs.{OfGot, on-seen, so-seen, unless, PredicateStands, predicate-stood}
 
 flag-back : (b : ℕ) (f : Flag) → flagOf b ≡ some f → flagByte f ≡ b
 flag-back zero f e = ap flagByte (let z : f ≡ plain = cc in z)
@@ -31,7 +33,7 @@ module _ (s : List ℕ) where
     pub stand : drop p s ≡ ts ++ drop q s
     pub ends : q ≡ p + length ts
 
-  pub types-stood : (n p : ℕ) → OfSeen (TypesStood n p) (typesAt s n p)
+  pub types-stood : (n p : ℕ) → OfGot (TypesStood n p) (typesAt s n p)
   unfolding typesAt
   types-stood zero p = record { so-many = refl; type-bytes = tt; stand = refl; ends = omega arith }
   types-stood (suc n) p =
@@ -75,21 +77,21 @@ module _ (s : List ℕ) where
           ends = omega arith;
         }
 
-    on-flag : (P : List Hypothesis → ℕ → Type 0) (o : Option Flag) (p : ℕ) (k : Flag → Seen (List Hypothesis)) → ((f : Flag) → o ≡ some f → OfSeen P (k f)) → OfSeen P (onFlag s o p k)
+    on-flag : (P : List Hypothesis → ℕ → Type 0) (o : Option Flag) (p : ℕ) (k : Flag → Parsed (List Hypothesis)) → ((f : Flag) → o ≡ some f → OfGot P (k f)) → OfGot P (onFlag s o p k)
     on-flag P none p k h = tt
     on-flag P (some f) p k h = h f refl
 
     pub hypotheses-stood : AllBytes s → (n : ℕ) (earlier : List Hypothesis) (p : ℕ) → Predicates types earlier → Different earlier
-        → OfSeen (HypothesesStood n earlier p) (hypothesesAt s types n earlier p)
+        → OfGot (HypothesesStood n earlier p) (hypothesesAt s types n earlier p)
     unfolding hypothesesAt
     hypotheses-stood B zero earlier p P D = record { so-many = omega arith; predicates = P; different = D; stand = refl; ends = omega arith }
     hypotheses-stood B (suc n) earlier p P D =
         let R = HypothesesStood (suc n) earlier p in
         unless R (leb (length s) p) _ _ _ λ i.
         on-flag R (flagOf (getD s p 0)) p _ λ f b.
-        on-seen (Stood s types (p + 1)) R (predicateAt s types (p + 1)) _ (predicate-stood s types (p + 1) B) λ x m X.
+        on-seen (PredicateStands s types (p + 1)) R (predicateAt s types (p + 1)) _ (predicate-stood s types (p + 1) B) λ x m X.
         unless R (present earlier x) _ _ _ λ a.
-        let h : Hypothesis = record { flag = f; formula = x } in
+        let h : Hypothesis = hypothesis f x in
         let e = one-more s p (leb-false _ _ i) ∙ rw (X .stands, ← flag-back (getD s p 0) f b) refl in
         so-seen (HypothesesStood n (earlier ++ (h ∷ [])) m) R (hypothesesAt s types n (earlier ++ (h ∷ [])) m)
         (hypotheses-stood B n (earlier ++ (h ∷ [])) m (one-predicate types h earlier P (X .is-formula)) (one-apart h earlier D a)) λ hs q H.

@@ -1,27 +1,28 @@
 -- THE ROUND TRIP: the accepted files are the bytes of the accepted sequents, each of one.
 use Prim.Native.Nat.{ℕ, _+_, _≤_}
 use mathlib.Core.Path.{_≡_, refl, ap, _∙_, subst}
-use mathlib.Core.Bool.{true, false, not, _&&_, _||_}
+use mathlib.Core.Bool.{Bool, true, false, not, _&&_, _||_}
 use mathlib.Core.List.{List, [], _++_, append-nil}
 use native.Mathlib.Omega.{arith}
 use lib.ListN.{length, getD, drop, length-append, drop-of-length-le}
 use lib.Dec.{ltb, eqb}
 use borrow.Author.Tests.{le-ltb, ltb-false, eqb-true, not-false}
+use Rattle.formula.specs.Reading.{Parsed, got}
 use Rattle.formula.specs.Tree.{Tree, encode}
 use Rattle.formula.proofs.Places.{AllBytes, one-more, behind}
 use Rattle.formula.proofs.Choices.{and-left, and-right}
-use Rattle.sequent.specs.Sequent.{Hypothesis, Sequent}
-use Rattle.sequent.specs.File.{header, hypothesesBytes, encodeSequent}
+use Rattle.desk.specs.Sequent.{Hypothesis, Sequent, sequentOf}
+use Rattle.desk.specs.File.{header, hypothesesBytes, encodeSequent}
 use Rattle.sequent.specs.Accepted.{AcceptedSequent}
-use Rattle.sequent.specs.ReadFile.{Seen, seen, predicateAt, typesAt, hypothesesAt, badMark, badVersion, badNumbers, bodyAt, readSequent}
-use Rattle.sequent.proofs.Apart.{or-false}
-use Rattle.sequent.proofs.SeenIs.{OfSeen, on-seen, unless, of-seen, Stood, reads-predicate, predicate-stood}
+use Rattle.sequent.specs.ReadFile.{headerAt, toEnd, predicateAt, typesAt, hypothesesAt, badMark, badVersion, badNumbers, bodyAt, readSequent}
+use Rattle.desk.proofs.Apart.{or-false}
+use Rattle.sequent.proofs.SeenIs.{OfGot, to-end, on-seen, unless, of-seen, PredicateStands, reads-predicate, predicate-stood}
 use Rattle.sequent.proofs.FileRead.{reads-types, reads-hypotheses}
 use Rattle.sequent.proofs.FileBack.{TypesStood, types-stood, HypothesesStood, hypotheses-stood}
 
 -- ---- the bytes of an accepted sequent are read as that sequent
 module _ (q : Sequent) (A : AcceptedSequent q) where
-  body-read : bodyAt (encodeSequent q) ≡ seen q (length (encodeSequent q))
+  body-read : bodyAt (encodeSequent q) ≡ got q (length (encodeSequent q))
   unfolding bodyAt encodeSequent
   body-read =
       let s = encodeSequent q in
@@ -36,15 +37,15 @@ module _ (q : Sequent) (A : AcceptedSequent q) where
       let n₂ = length-append hb g in
       let n : m + length g ≡ length s = omega arith in
       rw (reads-types s ts 8 (hb ++ g) (A .type-bytes) refl, reads-hypotheses s ts (q .hypotheses) [] p (g ++ []) (A .predicates) (A .different) e₁, reads-predicate s ts m (q .goal) [] (A .goal-is) e₂, le-ltb (m + length g) (length s) (omega arith))
-      (ap (seen q) n)
+      (ap (got q) n)
 
-  pub file-read : readSequent (encodeSequent q) ≡ seen q (length (encodeSequent q))
-  unfolding readSequent encodeSequent
+  pub file-read : readSequent (encodeSequent q) ≡ got q (length (encodeSequent q))
+  unfolding readSequent headerAt encodeSequent
   file-read =
       let s = encodeSequent q in
       rw (le-ltb (length s) 8 (omega arith), le-ltb 60000 (length s) (A .short), le-ltb 64 (length (q .types)) (A .few-types), le-ltb 64 (length (q .hypotheses)) (A .few)) body-read
 
-same-seen : (z : Seen Sequent) (q r : Sequent) (e f : ℕ) → z ≡ seen q e → z ≡ seen r f → q ≡ r
+same-seen : (z : Parsed Sequent) (q r : Sequent) (e f : ℕ) → z ≡ got q e → z ≡ got r f → q ≡ r
 same-seen z q r e f i j = cc
 
 -- equal bytes are those of one sequent
@@ -95,8 +96,8 @@ module _ (s : List ℕ) where
       n₁ = or-false (ltb 64 (b 6)) _ (n₀ .1)
 
   module _ (ts : List ℕ) (hs : List Hypothesis) (g : Tree) (p q e : ℕ) where
-    whole : length s ≤ 60000 → HeaderStood → TypesStood s (getD s 5 0) 8 ts p → HypothesesStood s ts (getD s 6 0) [] p hs q → Stood s ts q g e → length s ≤ e
-        → FileStood (record { types = ts; hypotheses = hs; goal = g }) e
+    whole : length s ≤ 60000 → HeaderStood → TypesStood s (getD s 5 0) 8 ts p → HypothesesStood s ts (getD s 6 0) [] p hs q → PredicateStands s ts q g e → length s ≤ e
+        → FileStood (sequentOf ts hs g) e
     unfolding encodeSequent hypothesesBytes
     whole l S T H G a = record {
       accepted = record {
@@ -121,19 +122,35 @@ module _ (s : List ℕ) where
         bytes : s ≡ header (length ts) (length hs) ++ (ts ++ (hypothesesBytes hs ++ encode g))
         bytes = S .stands ∙ rw (T .so-many, n, T .stand, H .stand, G .stands, no-more, append-nil (encode g))
 
-  file-stood : AllBytes s → OfSeen FileStood (readSequent s)
+  -- a header that is passed came out well in each test
+  pub record HeaderPassed (fine : Bool) (p : ℕ) : Type 0 where
+    pub within : (ltb (length s) 8 || ltb 60000 (length s)) ≡ false
+    pub mark : badMark s ≡ false
+    pub version : badVersion s ≡ false
+    pub numbers : badNumbers s ≡ false
+
+  pub header-passed : OfGot HeaderPassed (headerAt s)
+  unfolding headerAt
+  header-passed =
+      unless HeaderPassed (ltb (length s) 8 || ltb 60000 (length s)) _ _ _ λ l.
+      unless HeaderPassed (badMark s) _ _ _ λ m.
+      unless HeaderPassed (badVersion s) _ _ _ λ v.
+      unless HeaderPassed (badNumbers s) _ _ (got true 8) λ n.
+      record { within = l; mark = m; version = v; numbers = n }
+
+  -- a predicate with nothing after it
+  abbrev LastStands : List ℕ → ℕ → Tree → ℕ → Type 0
+  LastStands ts q g e = PredicateStands s ts q g e × (length s ≤ e)
+
+  file-stood : AllBytes s → OfGot FileStood (readSequent s)
   unfolding readSequent bodyAt
   file-stood B =
-      unless FileStood (ltb (length s) 8 || ltb 60000 (length s)) _ _ _ λ l.
-      unless FileStood (badMark s) _ _ _ λ m.
-      unless FileStood (badVersion s) _ _ _ λ v.
-      unless FileStood (badNumbers s) _ _ _ λ n.
+      on-seen HeaderPassed FileStood (headerAt s) _ header-passed λ fine r P.
       on-seen (TypesStood s (getD s 5 0) 8) FileStood (typesAt s (getD s 5 0) 8) _ (types-stood s (getD s 5 0) 8) λ ts p T.
       on-seen (HypothesesStood s ts (getD s 6 0) [] p) FileStood (hypothesesAt s ts (getD s 6 0) [] p) _ (hypotheses-stood s ts B (getD s 6 0) [] p tt tt) λ hs q H.
-      on-seen (Stood s ts q) FileStood (predicateAt s ts q) _ (predicate-stood s ts q B) λ g e G.
-      unless FileStood (ltb e (length s)) _ _ _ λ a.
-      let i = or-false (ltb (length s) 8) _ l in
-      whole ts hs g p q e (ltb-false _ _ (i .1)) (header-stood (ltb-false _ _ (i .0)) m v n) T H G (ltb-false _ _ a)
+      on-seen (LastStands ts q) FileStood (toEnd s (predicateAt s ts q)) _ (to-end s (PredicateStands s ts q) (LastStands ts q) (predicateAt s ts q) (predicate-stood s ts q B) (λ g e G a. (G, a))) λ g e L.
+      let i = or-false (ltb (length s) 8) _ (P .within) in
+      whole ts hs g p q e (ltb-false _ _ (i .1)) (header-stood (ltb-false _ _ (i .0)) (P .mark) (P .version) (P .numbers)) T H (L .0) (L .1)
 
-  pub file-is : AllBytes s → (q : Sequent) (e : ℕ) → readSequent s ≡ seen q e → AcceptedSequent q × (s ≡ encodeSequent q) × (e ≡ length s)
+  pub file-is : AllBytes s → (q : Sequent) (e : ℕ) → readSequent s ≡ got q e → AcceptedSequent q × (s ≡ encodeSequent q) × (e ≡ length s)
   file-is B q e r = let F = of-seen FileStood (readSequent s) (file-stood B) q e r in (F .accepted, F .bytes-are, F .ends)

@@ -10,41 +10,28 @@ use lib.Dec.{ltb, eqb}
 use borrow.Author.Tests.{le-ltb, lt-ltb, le-leb, lt-leb, eq-eqb, ne-eqb, ltb-false}
 use mir.Syntax.{w8}
 use mir.Val.{Fits}
+use Rattle.refusal.specs.Refusal.{refused}
 use Rattle.formula.specs.Pick.{pick}
 use Rattle.formula.specs.Tree.{Tree}
-use Rattle.formula.specs.Refusal as F
-use Rattle.formula.specs.Reading.{Parsed, got, not-got}
+use Rattle.formula.specs.Reading.{Parsed, got, not-got, onGot}
 use Rattle.formula.specs.Formula.{treeAt, endOrRefusal, readFormula}
-use Rattle.formula.specs.declared.Refusal.{Refusal}
-use Rattle.formula.specs.declared.Cause.{Cause}
+use Rattle.refusal.specs.declared.Refusal.{Refusal}
 use Rattle.formula.specs.declared.Reading.{Reading}
 use Rattle.formula.specs.declared.Reading.the-variants as reading
 use Rattle.formula.specs.declared.Sort.the-variants as sort
 use Rattle.formula.proofs.Places.{AllBytes}
-use Rattle.sequent.specs.Refusal.{number, placeOf, saidOf}
-use Rattle.sequent.specs.ReadFile.{Seen, seen, not-seen, onSeen, fromParsed, predicateAt, typesAt, badMark, badVersion, badNumbers}
-use Rattle.sequent.specs.Lent.{toEnd}
-use Rattle.sequent.specs.ReadBytes.{stop, checkOf, endOf, headerAt, itemAt, withHypothesis}
-use Rattle.sequent.specs.DeskBytes.{findAt}
-use Rattle.sequent.specs.Masks.{withBit}
-use Rattle.sequent.specs.declared.Why.{Why}
-use Rattle.sequent.specs.declared.Why.the-variants as why
-use Rattle.sequent.specs.declared.Stop.{Stop}
-use Rattle.sequent.specs.declared.View.{View}
+use Rattle.sequent.specs.ReadFile.{headerAt, predicateAt, typesAt, badMark, badVersion, badNumbers}
+use Rattle.sequent.specs.ReadFile.{toEnd}
+use Rattle.sequent.specs.Mirror.ReadBytes.{checkOf, endOf, itemAt, withHypothesis}
+use Rattle.desk.specs.Mirror.Bytes.{findAt}
+use Rattle.desk.specs.Mirror.Masks.{withBit}
+use Rattle.refusal.specs.declared.Cause.the-variants as cause
+use Rattle.desk.specs.declared.View.{View}
 use Rattle.sequent.specs.declared.Checked.{Checked}
 use Rattle.sequent.specs.declared.Checked.the-variants as checked
-use Rattle.sequent.specs.declared.Ended.{Ended}
-use Rattle.sequent.specs.declared.Ended.the-variants as ended
-use Rattle.sequent.specs.declared.Item.the-variants as item
-use Rattle.sequent.proofs.Apart.{or-false}
-
--- ---- refusals
-pub said-by : (w : Why) (at len n p : ℕ) → n ≡ number w → p ≡ placeOf w at len → record { number = n; place = p } ≡ saidOf w at len
-unfolding saidOf
-said-by w at len n p e f = rw (e, f) refl
-
-pub place-inside : (w : Why) (c : Cause) (at len p : ℕ) → w ≡ why.Formula c → p ≡ F.placeOf c at len → p ≡ placeOf w at len
-place-inside w c at len p e f = f ∙ ap (λ (v : Why). placeOf v at len) (sym e)
+use Rattle.sequent.specs.declared.HypothesisRead.the-variants as item
+use Rattle.desk.proofs.Apart.{or-false}
+use Rattle.desk.specs.Mirror.Desk.{view}
 
 -- a slice of bytes, from each of them
 pub all-bytes : (s : List ℕ) → ((i : ℕ) → Fits w8 (getD s i 0)) → AllBytes s
@@ -87,7 +74,7 @@ module _ (s : List ℕ) where
 pub ruleset headerBytes = (length-short, length-long, mark-first, mark-second, mark-third, version-first, version-second, numbers-types, numbers-hypotheses, numbers-last)
 
 module _ (s : List ℕ) (b : Bool) (b≡ : b ≡ (ltb (length s) 8 || ltb 60000 (length s))) where
-  pub header-length : b ≡ true → checked.Stopped (stop why.Length 0) ≡ headerAt s
+  pub header-length : b ≡ true → checked.Stopped (refused cause.Length 0) ≡ checkOf (headerAt s)
   unfolding headerAt
   header-length h = simp (← b≡, h)
 
@@ -96,30 +83,30 @@ module _ (s : List ℕ) (b : Bool) (b≡ : b ≡ (ltb (length s) 8 || ltb 60000 
     header-long = ltb-false _ _ (or-false (ltb (length s) 8) (ltb 60000 (length s)) (sym b≡ ∙ h) .0)
 
     module _ (c : Bool) (c≡ : c ≡ badMark s) where
-      pub header-mark : c ≡ true → checked.Stopped (stop why.Mark 0) ≡ headerAt s
+      pub header-mark : c ≡ true → checked.Stopped (refused cause.Mark 0) ≡ checkOf (headerAt s)
       unfolding headerAt
       header-mark k = simp (← b≡, h, ← c≡, k)
 
       module _ (k : c ≡ false) (d : Bool) (d≡ : d ≡ badVersion s) where
-        pub header-version : d ≡ true → checked.Stopped (stop why.Version 3) ≡ headerAt s
+        pub header-version : d ≡ true → checked.Stopped (refused cause.Version 3) ≡ checkOf (headerAt s)
         unfolding headerAt
         header-version l = simp (← b≡, h, ← c≡, k, ← d≡, l)
 
         module _ (l : d ≡ false) (e : Bool) (e≡ : e ≡ badNumbers s) where
-          pub header-numbers : e ≡ true → checked.Stopped (stop why.Header 5) ≡ headerAt s
+          pub header-numbers : e ≡ true → checked.Stopped (refused cause.Header 5) ≡ checkOf (headerAt s)
           unfolding headerAt
           header-numbers m = simp (← b≡, h, ← c≡, k, ← d≡, l, ← e≡, m)
 
-          pub header-fine : e ≡ false → checked.Fine ≡ headerAt s
+          pub header-fine : e ≡ false → checked.Fine ≡ checkOf (headerAt s)
           unfolding headerAt
           header-fine m = simp (← b≡, h, ← c≡, k, ← d≡, l, ← e≡, m)
 
 pub ruleset headers = (header-length, header-long, header-mark, header-version, header-numbers, header-fine)
 
 -- ---- type bytes
-check-rest : {A B : Type 0} (z : Seen A) (f : A → ℕ → B) → checkOf (onSeen z (λ a p. seen (f a p) p)) ≡ checkOf z
-check-rest (seen a p) f = refl
-check-rest (not-seen w p) f = refl
+check-rest : {A B : Type 0} (z : Parsed A) (f : A → ℕ → B) → checkOf (onGot z (λ a p. got (f a p) p)) ≡ checkOf z
+check-rest (got a p) f = refl
+check-rest (not-got w p) f = refl
 
 module _ (s : List ℕ) (p : ℕ) (z : Checked) where
   pub types-end : (n : ℕ) → checkOf (typesAt s n p) ≡ z → n ≡ 0 → checked.Fine ≡ z
@@ -127,12 +114,12 @@ module _ (s : List ℕ) (p : ℕ) (z : Checked) where
   types-end zero e h = e
   types-end (suc n) e h = absurd (omega (arith, h))
 
-  pub types-out : (n : ℕ) → checkOf (typesAt s n p) ≡ z → (n ≡ 0 → ⊥) → length s ≤ p → checked.Stopped (stop why.Length p) ≡ z
+  pub types-out : (n : ℕ) → checkOf (typesAt s n p) ≡ z → (n ≡ 0 → ⊥) → length s ≤ p → checked.Stopped (refused cause.Length p) ≡ z
   unfolding typesAt
   types-out zero e h k = absurd (h refl)
   types-out (suc n) e h k = simp (le-leb _ _ k) at e
 
-  pub types-wrong : (n : ℕ) → checkOf (typesAt s n p) ≡ z → (n ≡ 0 → ⊥) → p < length s → 2 < getD s p 0 → checked.Stopped (stop why.TypeByte p) ≡ z
+  pub types-wrong : (n : ℕ) → checkOf (typesAt s n p) ≡ z → (n ≡ 0 → ⊥) → p < length s → 2 < getD s p 0 → checked.Stopped (refused cause.TypeByte p) ≡ z
   unfolding typesAt
   types-wrong zero e h k l = absurd (h refl)
   types-wrong (suc n) e h k l = simp (lt-leb _ _ k, lt-ltb _ _ l) at e
@@ -145,70 +132,57 @@ module _ (s : List ℕ) (p : ℕ) (z : Checked) where
 pub ruleset typeBytes = (types-end, types-out, types-wrong, types-go)
 
 -- ---- a predicate
-module _ (s types : List ℕ) (p : ℕ) (r : Reading) (r≡ : r ≡ readFormula s types sort.Predicate p) where
-  abbrev endOfReading : Reading → Ended
-  endOfReading (reading.Read e) = ended.At e
-  endOfReading (reading.Refused x) = ended.Stopped (stop (why.Formula (x .cause)) (x .at))
-
-  reading-ends : endOfReading r ≡ endOf (predicateAt s types p)
-  unfolding predicateAt readFormula
-  reading-ends = ap endOfReading r≡ ∙ go (treeAt s types sort.Predicate p)
-    where
-      go : (z : Parsed Tree) → endOfReading (endOrRefusal z) ≡ endOf (fromParsed z)
-      go (got x e) = refl
-      go (not-got c q) = refl
-
-  pub predicate-ends : (e : ℕ) → r ≡ reading.Read e → ended.At e ≡ endOf (predicateAt s types p)
-  predicate-ends e q = sym (ap endOfReading q) ∙ reading-ends
-
-  pub predicate-stops : (x : Refusal) (c : Cause) → r ≡ reading.Refused x → c ≡ x .cause → ended.Stopped (stop (why.Formula c) (x .at)) ≡ endOf (predicateAt s types p)
-  predicate-stops x c q e = ap (λ (d : Cause). ended.Stopped (stop (why.Formula d) (x .at))) e ∙ sym (ap endOfReading q) ∙ reading-ends
-
-pub ruleset predicates = (predicate-ends, predicate-stops)
+pub reading-ends : (s types : List ℕ) (p : ℕ) (r : Reading) → r ≡ readFormula s types sort.Predicate p → r ≡ endOf (predicateAt s types p)
+unfolding predicateAt readFormula
+reading-ends s types p r r≡ = r≡ ∙ go (treeAt s types sort.Predicate p)
+  where
+    go : (z : Parsed Tree) → endOrRefusal z ≡ endOf z
+    go (got x e) = refl
+    go (not-got c q) = refl
 
 -- .. with nothing after it
-abbrev lastOf : ℕ → Ended → Checked
-lastOf len (ended.At e) = pick (ltb e len) (checked.Stopped (stop why.After e)) checked.Fine
-lastOf len (ended.Stopped x) = checked.Stopped x
+abbrev lastOf : ℕ → Reading → Checked
+lastOf len (reading.Read e) = pick (ltb e len) (checked.Stopped (refused cause.After e)) checked.Fine
+lastOf len (reading.Refused x) = checked.Stopped x
 
-pub last-of : {A : Type 0} (b : List ℕ) (z : Seen A) → lastOf (length b) (endOf z) ≡ checkOf (toEnd b z)
-last-of b (not-seen w p) = refl
-last-of b (seen a e) = go (ltb e (length b))
+pub last-of : {A : Type 0} (b : List ℕ) (z : Parsed A) → lastOf (length b) (endOf z) ≡ checkOf (toEnd b z)
+last-of b (not-got w p) = refl
+last-of b (got a e) = go (ltb e (length b))
   where
-    go : (t : Bool) → pick t (checked.Stopped (stop why.After e)) checked.Fine ≡ checkOf (pick t (not-seen why.After e) (seen a e))
+    go : (t : Bool) → pick t (checked.Stopped (refused cause.After e)) checked.Fine ≡ checkOf (pick t (not-got cause.After e) (got a e))
     go true = refl
     go false = refl
 
-module _ {A : Type 0} (b : List ℕ) (z : Seen A) (r : Ended) (r≡ : r ≡ endOf z) where
-  pub last-stops : (x : Stop) → r ≡ ended.Stopped x → checked.Stopped x ≡ checkOf (toEnd b z)
+module _ {A : Type 0} (b : List ℕ) (z : Parsed A) (r : Reading) (r≡ : r ≡ endOf z) where
+  pub last-stops : (x : Refusal) → r ≡ reading.Refused x → checked.Stopped x ≡ checkOf (toEnd b z)
   last-stops x q = sym (ap (lastOf (length b)) q) ∙ ap (lastOf (length b)) r≡ ∙ last-of b z
 
-  pub last-more : (e : ℕ) → r ≡ ended.At e → e < length b → checked.Stopped (stop why.After e) ≡ checkOf (toEnd b z)
+  pub last-more : (e : ℕ) → r ≡ reading.Read e → e < length b → checked.Stopped (refused cause.After e) ≡ checkOf (toEnd b z)
   last-more e q h = simp (lt-ltb _ _ h) at (sym (ap (lastOf (length b)) q) ∙ ap (lastOf (length b)) r≡ ∙ last-of b z)
 
-  pub last-fine : (e : ℕ) → r ≡ ended.At e → length b ≤ e → checked.Fine ≡ checkOf (toEnd b z)
+  pub last-fine : (e : ℕ) → r ≡ reading.Read e → length b ≤ e → checked.Fine ≡ checkOf (toEnd b z)
   last-fine e q h = simp (le-ltb _ _ h) at (sym (ap (lastOf (length b)) q) ∙ ap (lastOf (length b)) r≡ ∙ last-of b z)
 
-pub ruleset lasts = (last-stops, last-more, last-fine)
+pub ruleset lasts = (reading-ends, last-stops, last-more, last-fine)
 
 -- ---- a hypothesis
 module _ (s types places : List ℕ) (i p : ℕ) where
-  pub item-out : length s ≤ p → item.Stopped (stop why.Length p) ≡ itemAt s types places i p
+  pub item-out : length s ≤ p → item.Stopped (refused cause.Length p) ≡ itemAt s types places i p
   unfolding itemAt
   item-out h = simp (le-leb _ _ h)
 
   module _ (h : p < length s) where
-    pub item-flag : 2 < getD s p 0 → item.Stopped (stop why.FlagByte p) ≡ itemAt s types places i p
+    pub item-flag : 2 < getD s p 0 → item.Stopped (refused cause.FlagByte p) ≡ itemAt s types places i p
     unfolding itemAt
     item-flag k = simp (lt-leb _ _ h, lt-ltb _ _ k)
 
-    module _ (k : getD s p 0 ≤ 2) (r : Ended) (r≡ : r ≡ endOf (predicateAt s types (p + 1))) where
-      pub item-stops : (x : Stop) → r ≡ ended.Stopped x → item.Stopped x ≡ itemAt s types places i p
+    module _ (k : getD s p 0 ≤ 2) (r : Reading) (r≡ : r ≡ endOf (predicateAt s types (p + 1))) where
+      pub item-stops : (x : Refusal) → r ≡ reading.Refused x → item.Stopped x ≡ itemAt s types places i p
       unfolding itemAt
       item-stops x q = simp (lt-leb _ _ h, le-ltb _ _ k, ← r≡, q)
 
-      module _ (e : ℕ) (q : r ≡ ended.At e) (j : ℕ) (j≡ : j ≡ findAt s places i s (p + 1) e) where
-        pub item-twice : j < i → item.Stopped (stop why.Twice (p + 1)) ≡ itemAt s types places i p
+      module _ (e : ℕ) (q : r ≡ reading.Read e) (j : ℕ) (j≡ : j ≡ findAt s places i s (p + 1) e) where
+        pub item-twice : j < i → item.Stopped (refused cause.Twice (p + 1)) ≡ itemAt s types places i p
         unfolding itemAt
         item-twice l = simp (lt-leb _ _ h, le-ltb _ _ k, ← r≡, q, ← j≡, lt-ltb _ _ l)
 
@@ -216,7 +190,7 @@ module _ (s types places : List ℕ) (i p : ℕ) where
         unfolding itemAt
         item-read l = simp (lt-leb _ _ h, le-ltb _ _ k, ← r≡, q, ← j≡, le-ltb _ _ l)
 
-pub ruleset items = (item-out, item-flag, item-stops, item-twice, item-read)
+pub ruleset items = (reading-ends, item-out, item-flag, item-stops, item-twice, item-read)
 
 -- ---- masks
 module _ (m i r : ℕ) (on : Bool) where
@@ -226,8 +200,8 @@ module _ (m i r : ℕ) (on : Bool) where
   pub bit-off : on ≡ false → m ≡ pick on (withBit m i) m
   bit-off e = rw e refl
 
-pub with-hypothesis : (v : View) (b e i m n : ℕ) → i ≡ v .h → m ≡ pick (eqb b 1) (withBit (v .hidden) i) (v .hidden) → n ≡ pick (eqb b 2) (withBit (v .selected) i) (v .selected)
-    → record { t = v .t; h = i + 1; end = e; hidden = m; selected = n } ≡ withHypothesis v b e
+pub with-hypothesis : (v : View) (b e i m n : ℕ) → i ≡ v .hypotheses → m ≡ pick (eqb b 1) (withBit (v .hidden) i) (v .hidden) → n ≡ pick (eqb b 2) (withBit (v .selected) i) (v .selected)
+    → view (v .identifiers) (i + 1) e m n ≡ withHypothesis v b e
 with-hypothesis v b e i m n q f g = rw (f, g, q) refl
 
 pub ruleset views = (bit-on, bit-off, with-hypothesis)

@@ -12,27 +12,30 @@ use lib.Dec.{ltb, leb, eqb}
 use borrow.Author.Tests.{ltb-true, ltb-false}
 use mir.Syntax.{w8}
 use mir.Val.{Fits}
+use Rattle.refusal.specs.Refusal.{refused}
+use Rattle.formula.specs.Reading.{Parsed, got, not-got, onGot}
 use Rattle.formula.specs.Pick.{pick}
 use Rattle.formula.specs.Tree.{Tree, encode}
 use Rattle.formula.proofs.Places.{AllBytes}
-use Rattle.formula.proofs.EqualLaws as E
-use Rattle.sequent.specs.Sequent.{Flag, plain, hidden, selected, Hypothesis, isHidden, isSelected, present}
-use Rattle.sequent.specs.File.{hypothesesBytes}
-use Rattle.sequent.specs.ReadFile.{Seen, seen, not-seen, onSeen, predicateAt, flagOf, onFlag, hypothesesAt}
-use Rattle.sequent.specs.Desk.{maskOf, placesFrom, Stand, Holds, Range}
-use Rattle.sequent.specs.ReadBytes.{stop, endOf, unlessTwice, itemAt, withHypothesis, HypothesesAre}
-use Rattle.sequent.specs.DeskBytes.{findAt}
-use Rattle.sequent.specs.declared.Why.the-variants as why
-use Rattle.sequent.specs.declared.Stop.{Stop}
-use Rattle.sequent.specs.declared.View.{View}
-use Rattle.sequent.specs.declared.Item.{Item}
-use Rattle.sequent.specs.declared.Item.the-variants as item
-use Rattle.sequent.specs.declared.Stage.the-variants as stage
-use Rattle.sequent.proofs.Apart.{bytes-append}
-use Rattle.sequent.proofs.SeenIs.{OfSeen, Stood, predicate-stood}
+use Rattle.desk.specs.Sequent.{Flag, plain, hidden, selected, Hypothesis, isHidden, isSelected, present, hypothesis}
+use Rattle.desk.specs.File.{hypothesesBytes}
+use Rattle.sequent.specs.ReadFile.{predicateAt, flagOf, onFlag, hypothesesAt}
+use Rattle.desk.specs.Mirror.Desk.{maskOf, placesFrom, HypothesesStand, Holds, view}
+use Rattle.formula.specs.Equal.{Range}
+use Rattle.sequent.specs.Mirror.ReadBytes.{endOf, unlessTwice, itemAt, withHypothesis, HypothesesAre}
+use Rattle.desk.specs.Mirror.Bytes.{findAt}
+use Rattle.refusal.specs.declared.Cause.the-variants as cause
+use Rattle.refusal.specs.declared.Refusal.{Refusal}
+use Rattle.desk.specs.declared.View.{View}
+use Rattle.sequent.specs.declared.HypothesisRead.{HypothesisRead}
+use Rattle.sequent.specs.declared.HypothesisRead.the-variants as item
+use Rattle.sequent.specs.declared.SequentRead.the-variants as stage
+use Rattle.desk.proofs.Apart.{bytes-append}
+use Rattle.sequent.proofs.SeenIs.{OfGot, PredicateStands, predicate-stood}
 use Rattle.sequent.proofs.FileLaws.{all-bytes}
-use Rattle.sequent.proofs.Found.{find-is, there-is}
-use Rattle.sequent.proofs.CountLaws.{mask-more}
+use Rattle.desk.proofs.Found.{find-is, there-is}
+use Rattle.desk.proofs.MaskCounts.{mask-more}
+use Rattle.desk.proofs.MaskLaws.{hidden-is, selected-is}
 
 -- ---- the flag of a byte
 record FlagIs (b : ℕ) : Type 0 where
@@ -64,9 +67,9 @@ module _ (s : List ℕ) (h : Hypothesis) where
       let e : p + 1 + n + length (hypothesesBytes hs) ≡ p + suc (length (encode (k .formula) ++ hypothesesBytes hs)) = omega arith in
       ap (λ (l : List ℕ). p ∷ l) (place-more hs (p + 1 + n) ∙ rw e refl)
 
-  stand-more : (hs : List Hypothesis) (p : ℕ) → Stand s p hs
-      → take (length (encode (h .formula))) (drop (p + length (hypothesesBytes hs) + 1) s) ≡ encode (h .formula) → Stand s p (hs ++ (h ∷ []))
-  unfolding Stand hypothesesBytes
+  stand-more : (hs : List Hypothesis) (p : ℕ) → HypothesesStand s p hs
+      → take (length (encode (h .formula))) (drop (p + length (hypothesesBytes hs) + 1) s) ≡ encode (h .formula) → HypothesesStand s p (hs ++ (h ∷ []))
+  unfolding HypothesesStand hypothesesBytes
   stand-more [] p S e = (subst (λ (i : ℕ). take (length (encode (h .formula))) (drop (i + 1) s) ≡ encode (h .formula)) (add-zero p) e, tt)
   stand-more (k ∷ hs) p S e =
       let n = length (encode (k .formula)) in
@@ -74,21 +77,21 @@ module _ (s : List ℕ) (h : Hypothesis) where
       let q : p + suc (length (encode (k .formula) ++ hypothesesBytes hs)) ≡ p + 1 + n + length (hypothesesBytes hs) = omega arith in
       (S .0, stand-more hs (p + 1 + n) (S .1) (rw q at e))
 
-module _ (s types places : List ℕ) (v : View) (hs : List Hypothesis) (H : Holds s places v types hs) (long : length places ≡ 65) (room : v .h < 64) where
+module _ (s types places : List ℕ) (v : View) (hs : List Hypothesis) (H : Holds s places v types hs) (long : length places ≡ 65) (room : v .hypotheses < 64) where
   -- the reader's step
   module _ (n : ℕ) where
-    record More (R : Seen (List Hypothesis)) (b e : ℕ) : Type 0 where
-      hypothesis : Hypothesis
-      hidden-by : eqb b 1 ≡ isHidden (hypothesis .flag)
-      selected-by : eqb b 2 ≡ isSelected (hypothesis .flag)
-      stood : Stood s types (v .end + 1) (hypothesis .formula) e
-      seen-is : R ≡ hypothesesAt s types n (hs ++ (hypothesis ∷ [])) e
+    record More (R : Parsed (List Hypothesis)) (b e : ℕ) : Type 0 where
+      next : Hypothesis
+      hidden-by : eqb b 1 ≡ isHidden (next .flag)
+      selected-by : eqb b 2 ≡ isSelected (next .flag)
+      stood : PredicateStands s types (v .end + 1) (next .formula) e
+      seen-is : R ≡ hypothesesAt s types n (hs ++ (next ∷ [])) e
 
-    abbrev StepIs : Seen (List Hypothesis) → Item → Type 0
-    StepIs R (item.Stopped y) = R ≡ not-seen (y .why) (y .at)
+    abbrev StepIs : Parsed (List Hypothesis) → HypothesisRead → Type 0
+    StepIs R (item.Stopped y) = R ≡ not-got (y .cause) (y .at)
     StepIs R (item.Read b e) = More R b e
 
-    step-is : AllBytes s → StepIs (hypothesesAt s types (suc n) hs (v .end)) (itemAt s types places (v .h) (v .end))
+    step-is : AllBytes s → StepIs (hypothesesAt s types (suc n) hs (v .end)) (itemAt s types places (v .hypotheses) (v .end))
     unfolding hypothesesAt itemAt
     step-is B = at-end (leb (length s) (v .end)) (ltb 2 b) refl (predicateAt s types (p + 1)) (predicate-stood s types (p + 1) B)
       where
@@ -98,54 +101,54 @@ module _ (s types places : List ℕ) (v : View) (hs : List Hypothesis) (H : Hold
         b : ℕ
         b = getD s p 0
 
-        rest : Flag → Tree → ℕ → Seen (List Hypothesis)
-        rest f x q = pick (present hs x) (not-seen why.Twice (p + 1)) (hypothesesAt s types n (hs ++ (record { flag = f; formula = x } ∷ [])) q)
+        rest : Flag → Tree → ℕ → Parsed (List Hypothesis)
+        rest f x q = pick (present hs x) (not-got cause.Twice (p + 1)) (hypothesesAt s types n (hs ++ (hypothesis f x ∷ [])) q)
 
         -- the bytes from p + 1 to q are those of x
-        twice : (x : Tree) (q : ℕ) → Stood s types (p + 1) x q → ltb (findAt s places (v .h) s (p + 1) q) (v .h) ≡ present hs x
+        twice : (x : Tree) (q : ℕ) → PredicateStands s types (p + 1) x q → ltb (findAt s places (v .hypotheses) s (p + 1) q) (v .hypotheses) ≡ present hs x
         twice x q S =
             let e = S .ends in
             let n : q - (p + 1) ≡ length (encode x) = omega arith in
             let R : Range s (p + 1) q x = record { from-to = omega arith; inside = S .inside; bytes-are = rw n (ap (take (length (encode x))) (S .stands) ∙ take-at (encode x) (drop q s) (length (encode x)) refl) } in
-            rw (find-is s places (v .h) s (p + 1) q (findAt s places (v .h) s (p + 1) q) refl v types hs x H refl R, H .h-is) (there-is hs x)
+            rw (find-is s places (v .hypotheses) s (p + 1) q (findAt s places (v .hypotheses) s (p + 1) q) refl v types hs x H refl R, H .hypotheses-are) (there-is hs x)
 
-        found : (f : FlagIs b) (x : Tree) (q : ℕ) → Stood s types (p + 1) x q → (t : Bool) → present hs x ≡ t
-            → StepIs (pick t (not-seen why.Twice (p + 1)) (hypothesesAt s types n (hs ++ (record { flag = f .flag; formula = x } ∷ [])) q))
-            (pick t (item.Stopped (stop why.Twice (p + 1))) (item.Read b q))
+        found : (f : FlagIs b) (x : Tree) (q : ℕ) → PredicateStands s types (p + 1) x q → (t : Bool) → present hs x ≡ t
+            → StepIs (pick t (not-got cause.Twice (p + 1)) (hypothesesAt s types n (hs ++ (hypothesis (f .flag) x ∷ [])) q))
+            (pick t (item.Stopped (refused cause.Twice (p + 1))) (item.Read b q))
         found f x q S true e = refl
-        found f x q S false e = record { hypothesis = record { flag = f .flag; formula = x }; hidden-by = f .hidden-by; selected-by = f .selected-by; stood = S; seen-is = refl }
+        found f x q S false e = record { next = hypothesis (f .flag) x; hidden-by = f .hidden-by; selected-by = f .selected-by; stood = S; seen-is = refl }
 
-        read : (f : FlagIs b) (z : Seen Tree) → OfSeen (Stood s types (p + 1)) z → StepIs (onSeen z (rest (f .flag))) (unlessTwice s places (v .h) p (endOf z))
-        read f (not-seen w q) S = refl
-        read f (seen x q) S = rw (twice x q S) (found f x q S (present hs x) refl)
+        read : (f : FlagIs b) (z : Parsed Tree) → OfGot (PredicateStands s types (p + 1)) z → StepIs (onGot z (rest (f .flag))) (unlessTwice s places (v .hypotheses) p (endOf z))
+        read f (not-got w q) S = refl
+        read f (got x q) S = rw (twice x q S) (found f x q S (present hs x) refl)
 
-        at-end : (t u : Bool) → ltb 2 b ≡ u → (z : Seen Tree) → OfSeen (Stood s types (p + 1)) z
-            → StepIs (pick t (not-seen why.Length p) (onFlag s (flagOf b) p (λ f. onSeen z (rest f))))
-            (pick t (item.Stopped (stop why.Length p)) (pick u (item.Stopped (stop why.FlagByte p)) (unlessTwice s places (v .h) p (endOf z))))
+        at-end : (t u : Bool) → ltb 2 b ≡ u → (z : Parsed Tree) → OfGot (PredicateStands s types (p + 1)) z
+            → StepIs (pick t (not-got cause.Length p) (onFlag s (flagOf b) p (λ f. onGot z (rest f))))
+            (pick t (item.Stopped (refused cause.Length p)) (pick u (item.Stopped (refused cause.FlagByte p)) (unlessTwice s places (v .hypotheses) p (endOf z))))
         at-end true u e z S = refl
         at-end false true e z S = rw (no-flag b e) refl
         at-end false false e z S = let f = flag-is b e in rw (f .flag-of) (read f z S)
 
     -- the desk with it
-    more-holds : (R : Seen (List Hypothesis)) (b e : ℕ) → (M : More R b e) → Holds s (set places (v .h + 1) e) (withHypothesis v b e) types (hs ++ (M .hypothesis ∷ []))
+    more-holds : (R : Parsed (List Hypothesis)) (b e : ℕ) → (M : More R b e) → Holds s (set places (v .hypotheses + 1) e) (withHypothesis v b e) types (hs ++ (M .next ∷ []))
     unfolding hypothesesBytes
     more-holds R b e M =
-        let k = M .hypothesis in
+        let k = M .next in
         let x = encode (k .formula) in
         let S = M .stood in
         let S₀ = S .ends in
         let S₁ = S .inside in
-        let w = H .h-is in
+        let w = H .hypotheses-are in
         let u = H .end-is in
         let l = length-append hs (k ∷ []) in
         let m = ap length (bytes-append hs (k ∷ [])) ∙ length-append (hypothesesBytes hs) (hypothesesBytes (k ∷ [])) in
         let r = ap length (append-nil x) in
         let a : length (hs ++ (k ∷ [])) ≡ suc (length hs) = omega arith in
-        let c : v .h + 1 ≡ suc (length hs) = omega arith in
+        let c : v .hypotheses + 1 ≡ suc (length hs) = omega arith in
         let z : e ≡ 8 + length types + length (hypothesesBytes hs) + 1 + length x = omega arith in
         record {
-          t-is = H .t-is;
-          h-is = omega arith;
+          identifiers-are = H .identifiers-are;
+          hypotheses-are = omega arith;
           end-is = omega arith;
           in-desk = S₁;
           types-are = H .types-are;
@@ -159,19 +162,19 @@ module _ (s types places : List ℕ) (v : View) (hs : List Hypothesis) (H : Hold
 pub record Reached (s types : List ℕ) (h : ℕ) (places : List ℕ) (v : View) : Type 0 where
   pub earlier : List Hypothesis
   pub held : Holds s places v types earlier
-  pub left : hypothesesAt s types (h - v .h) earlier (v .end) ≡ hypothesesAt s types h [] (8 + length types)
+  pub left : hypothesesAt s types (h - v .hypotheses) earlier (v .end) ≡ hypothesesAt s types h [] (8 + length types)
   pub long : length places ≡ 65
-  pub few : v .h ≤ h
+  pub few : v .hypotheses ≤ h
   pub bytes : AllBytes s
 
 pub reached-none : (s types : List ℕ) (h start : ℕ) → ((i : ℕ) → Fits w8 (getD s i 0)) → 8 + length types ≤ length s → take (length types) (drop 8 s) ≡ types → start ≡ 8 + length types
-    → Reached s types h (replicate 65 start) (record { t = length types; h = 0; end = start; hidden = 0; selected = 0 })
-unfolding placesFrom Stand maskOf hypothesesBytes
+    → Reached s types h (replicate 65 start) (view (length types) 0 start 0 0)
+unfolding placesFrom HypothesesStand maskOf hypothesesBytes
 reached-none s types h start B i t e = record {
   earlier = [];
   held = record {
-    t-is = refl;
-    h-is = refl;
+    identifiers-are = refl;
+    hypotheses-are = refl;
     end-is = omega arith;
     in-desk = omega arith;
     types-are = t;
@@ -186,48 +189,48 @@ reached-none s types h start B i t e = record {
   bytes = all-bytes s B;
 }
 
-module _ (s types : List ℕ) (h : ℕ) (places : List ℕ) (v : View) (R : Reached s types h places v) (few : h ≤ 64) (k : v .h < h) (x : Item) (x≡ : x ≡ itemAt s types places (v .h) (v .end)) where
+module _ (s types : List ℕ) (h : ℕ) (places : List ℕ) (v : View) (R : Reached s types h places v) (few : h ≤ 64) (k : v .hypotheses < h) (x : HypothesisRead) (x≡ : x ≡ itemAt s types places (v .hypotheses) (v .end)) where
   -- how many there are after this one
   abbrev n : ℕ
-  n = h - v .h - 1
+  n = h - v .hypotheses - 1
 
   left-is : hypothesesAt s types (suc n) (R .earlier) (v .end) ≡ hypothesesAt s types h [] (8 + length types)
-  left-is = let m : h - v .h ≡ suc n = omega arith in rw m at (R .left)
+  left-is = let m : h - v .hypotheses ≡ suc n = omega arith in rw m at (R .left)
 
-  room : v .h < 64
+  room : v .hypotheses < 64
   room = omega arith
 
-  abbrev Step : Item → Type 0
+  abbrev Step : HypothesisRead → Type 0
   Step = StepIs s types places v (R .earlier) (R .held) (R .long) room n (hypothesesAt s types (suc n) (R .earlier) (v .end))
 
   step : Step x
   step = subst Step (sym x≡) (step-is s types places v (R .earlier) (R .held) (R .long) room n (R .bytes))
 
-  pub reached-more : (b e : ℕ) (w : View) → x ≡ item.Read b e → w ≡ withHypothesis v b e → Reached s types h (set places (v .h + 1) (w .end)) w
+  pub reached-more : (b e : ℕ) (w : View) → x ≡ item.Read b e → w ≡ withHypothesis v b e → Reached s types h (set places (v .hypotheses + 1) (w .end)) w
   reached-more b e w q f =
       let M = subst Step q step in
-      let i : h - (v .h + 1) ≡ n = omega arith in
-      subst (λ (u : View). Reached s types h (set places (v .h + 1) (u .end)) u) (sym f)
+      let i : h - (v .hypotheses + 1) ≡ n = omega arith in
+      subst (λ (u : View). Reached s types h (set places (v .hypotheses + 1) (u .end)) u) (sym f)
       (record {
-        earlier = R .earlier ++ (M .hypothesis ∷ []);
+        earlier = R .earlier ++ (M .next ∷ []);
         held = more-holds s types places v (R .earlier) (R .held) (R .long) room n _ b e M;
         left = rw i (sym (M .seen-is) ∙ left-is);
-        long = length-set places (v .h + 1) e ∙ R .long;
+        long = length-set places (v .hypotheses + 1) e ∙ R .long;
         few = omega arith;
         bytes = R .bytes;
       })
 
-  pub reached-stops : (y : Stop) → x ≡ item.Stopped y → (places′ : List ℕ) → HypothesesAre s types h places′ (stage.Stopped y)
+  pub reached-stops : (y : Refusal) → x ≡ item.Stopped y → (places′ : List ℕ) → HypothesesAre s types h places′ (stage.Stopped y)
   unfolding HypothesesAre
   reached-stops y q places′ = sym left-is ∙ subst Step q step
 
-pub reached-all : (s types : List ℕ) (h : ℕ) (places : List ℕ) (v : View) → Reached s types h places v → h ≤ v .h → HypothesesAre s types h places (stage.Read v)
+pub reached-all : (s types : List ℕ) (h : ℕ) (places : List ℕ) (v : View) → Reached s types h places v → h ≤ v .hypotheses → HypothesesAre s types h places (stage.Read v)
 unfolding hypothesesAt HypothesesAre
 reached-all s types h places v R k =
-    let m : h - v .h ≡ 0 = omega arith in
+    let m : h - v .hypotheses ≡ 0 = omega arith in
     (R .earlier, sym (R .left) ∙ rw m refl, R .held)
 
-pub one-fewer : (v w : View) (b e h : ℕ) → w ≡ withHypothesis v b e → v .h < h → h - w .h < h - v .h
-one-fewer v w b e h f k = let i : w .h ≡ v .h + 1 = ap (λ (u : View). u .h) f in omega arith
+pub one-fewer : (v w : View) (b e h : ℕ) → w ≡ withHypothesis v b e → v .hypotheses < h → h - w .hypotheses < h - v .hypotheses
+one-fewer v w b e h f k = let i : w .hypotheses ≡ v .hypotheses + 1 = ap (λ (u : View). u .hypotheses) f in omega arith
 
 pub ruleset reached = (one-fewer, reached-none, reached-more, reached-stops, reached-all)

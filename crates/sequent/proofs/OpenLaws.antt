@@ -1,7 +1,7 @@
 -- A file that is opened: the header, the type bytes, the hypotheses and the goal are those that document 01 reads.
 use Prim.Native.Nat.{ℕ, _+_, _-_, _^_, _<_, _≤_}
 use mathlib.Core.Path.{_≡_, refl, sym, ap, _∙_, subst}
-use mathlib.Core.Bool.{Bool, true, false, _||_}
+use mathlib.Core.Bool.{Bool, true, false}
 use mathlib.Core.List.{List, [], append-nil}
 use native.Mathlib.Omega.{arith}
 use lib.ListN.{length, getD, take, drop, length-append, length-drop, drop-of-length-le}
@@ -10,83 +10,80 @@ use lib.Dec.{ltb}
 use borrow.Author.Tests.{ltb-false}
 use mir.Syntax.{w8, w64}
 use mir.Val.{Fits}
+use Rattle.refusal.specs.Refusal.{refused, saidOf}
+use Rattle.formula.specs.Reading.{Parsed, got, not-got, onGot}
 use Rattle.formula.specs.Pick.{pick}
 use Rattle.formula.specs.Tree.{Tree, encode}
-use Rattle.formula.specs.declared.Said.{Said}
+use Rattle.refusal.specs.declared.Said.{Said}
 use Rattle.formula.proofs.Places.{AllBytes}
-use Rattle.sequent.specs.Sequent.{Hypothesis, Sequent}
-use Rattle.sequent.specs.Refusal.{saidOf}
-use Rattle.sequent.specs.ReadFile.{Seen, seen, not-seen, onSeen, predicateAt, typesAt, hypothesesAt, badMark, badVersion, badNumbers, bodyAt, readSequent}
-use Rattle.sequent.specs.Lent.{toEnd}
-use Rattle.sequent.specs.Desk.{Open, Not}
-use Rattle.sequent.specs.ReadBytes.{stop, checkOf, headerAt, HypothesesAre, restAt, StageIs, WholeIs}
-use Rattle.sequent.specs.declared.Why.{Why}
-use Rattle.sequent.specs.declared.Why.the-variants as why
-use Rattle.sequent.specs.declared.Stop.{Stop}
-use Rattle.sequent.specs.declared.View.{View}
+use Rattle.desk.specs.Sequent.{Hypothesis, Sequent, sequentOf}
+use Rattle.sequent.specs.ReadFile.{headerAt, predicateAt, typesAt, hypothesesAt, bodyAt, readSequent}
+use Rattle.sequent.specs.ReadFile.{toEnd}
+use Rattle.sequent.specs.Mirror.Opened.{Open, Not}
+use Rattle.sequent.specs.Mirror.ReadBytes.{checkOf, HypothesesAre, restAt, StageIs, WholeIs}
+use Rattle.refusal.specs.declared.Cause.the-variants as cause
+use Rattle.refusal.specs.declared.Refusal.{Refusal}
+use Rattle.desk.specs.declared.View.{View}
 use Rattle.sequent.specs.declared.Checked.{Checked}
 use Rattle.sequent.specs.declared.Checked.the-variants as checked
-use Rattle.sequent.specs.declared.Stage.{Stage}
-use Rattle.sequent.specs.declared.Stage.the-variants as stage
-use Rattle.sequent.proofs.Apart.{or-false}
-use Rattle.sequent.proofs.SeenIs.{OfSeen, of-seen, Stood, predicate-stood}
+use Rattle.sequent.specs.declared.SequentRead.{SequentRead}
+use Rattle.sequent.specs.declared.SequentRead.the-variants as stage
+use Rattle.desk.proofs.Apart.{or-false}
+use Rattle.sequent.proofs.SeenIs.{OfGot, of-seen, PredicateStands, predicate-stood}
 use Rattle.sequent.proofs.FileBack.{TypesStood, types-stood}
-use Rattle.sequent.proofs.FileIs.{file-is}
+use Rattle.sequent.proofs.FileIs.{HeaderPassed, header-passed, file-is}
 use Rattle.sequent.proofs.FileLaws.{all-bytes}
 
 -- ---- whether something was seen
-pub check-stopped : {A : Type 0} (z : Seen A) (x : Stop) → checkOf z ≡ checked.Stopped x → z ≡ not-seen (x .why) (x .at)
-check-stopped (seen a p) x e = absurd (let z : _≡_ {A = ℕ} 0 1 = cc in omega arith)
-check-stopped (not-seen w p) x e = let q : stop w p ≡ x = cc in ap (λ (y : Stop). not-seen (y .why) (y .at)) q
+pub check-stopped : {A : Type 0} (z : Parsed A) (x : Refusal) → checkOf z ≡ checked.Stopped x → z ≡ not-got (x .cause) (x .at)
+check-stopped (got a p) x e = absurd (let z : _≡_ {A = ℕ} 0 1 = cc in omega arith)
+check-stopped (not-got w p) x e = let q : refused w p ≡ x = cc in ap (λ (y : Refusal). not-got (y .cause) (y .at)) q
 
-pub record Fine {A : Type 0} (z : Seen A) : Type 0 where
+pub record Fine {A : Type 0} (z : Parsed A) : Type 0 where
   pub thing : A
   pub place : ℕ
-  pub seen-is : z ≡ seen thing place
+  pub seen-is : z ≡ got thing place
 
-pub check-fine : {A : Type 0} (z : Seen A) → checkOf z ≡ checked.Fine → Fine z
-check-fine (seen a p) e = record { thing = a; place = p; seen-is = refl }
-check-fine (not-seen w p) e = absurd (let z : _≡_ {A = ℕ} 0 1 = cc in omega arith)
+pub check-fine : {A : Type 0} (z : Parsed A) → checkOf z ≡ checked.Fine → Fine z
+check-fine (got a p) e = record { thing = a; place = p; seen-is = refl }
+check-fine (not-got w p) e = absurd (let z : _≡_ {A = ℕ} 0 1 = cc in omega arith)
 
 -- what is said of a refusal
-pub not-is : {A : Type 0} (b : List ℕ) (r : Seen A) (v w : Why) (p : ℕ) (z : Said) → r ≡ not-seen v p → w ≡ v → z ≡ saidOf w p (length b) → Not b r z
-not-is b r v w p z e f g = record { place = p; why = v; refused-is = e; said-is = g ∙ ap (λ (u : Why). saidOf u p (length b)) f }
+pub not-is : {A : Type 0} (b : List ℕ) (r : Parsed A) (x : Refusal) (z : Said) → r ≡ not-got (x .cause) (x .at) → z ≡ saidOf x (length b) → Not b r z
+not-is b r x z e g = record { refusal = x; refused-is = e; said-is = g }
 
 -- a predicate that stands to the end
 module _ (s : List ℕ) (types : List ℕ) (p : ℕ) where
-  pub record Last (z : Seen Tree) : Type 0 where
+  pub record Last (z : Parsed Tree) : Type 0 where
     pub tree : Tree
     pub place : ℕ
-    pub seen-is : z ≡ seen tree place
+    pub seen-is : z ≡ got tree place
     pub bytes-are : drop p s ≡ encode tree
 
   pub last-is : AllBytes s → checkOf (toEnd s (predicateAt s types p)) ≡ checked.Fine → Last (toEnd s (predicateAt s types p))
   last-is B = go (predicateAt s types p) (predicate-stood s types p B)
     where
-      end : (x : Tree) (e : ℕ) → Stood s types p x e → (t : Bool) → ltb e (length s) ≡ t → checkOf (pick t (not-seen why.After e) (seen x e)) ≡ checked.Fine → Last (pick t (not-seen why.After e) (seen x e))
+      end : (x : Tree) (e : ℕ) → PredicateStands s types p x e → (t : Bool) → ltb e (length s) ≡ t → checkOf (pick t (not-got cause.After e) (got x e)) ≡ checked.Fine → Last (pick t (not-got cause.After e) (got x e))
       end x e S true f c = absurd (let z : _≡_ {A = ℕ} 0 1 = cc in omega arith)
       end x e S false f c = record { tree = x; place = e; seen-is = refl; bytes-are = S .stands ∙ rw (drop-of-length-le s (ltb-false e (length s) f), append-nil (encode x)) refl }
 
-      go : (z : Seen Tree) → OfSeen (Stood s types p) z → checkOf (toEnd s z) ≡ checked.Fine → Last (toEnd s z)
-      go (seen x e) S c = end x e S (ltb e (length s)) refl c
-      go (not-seen w q) S c = absurd (let z : _≡_ {A = ℕ} 0 1 = cc in omega arith)
+      go : (z : Parsed Tree) → OfGot (PredicateStands s types p) z → checkOf (toEnd s z) ≡ checked.Fine → Last (toEnd s z)
+      go (got x e) S c = end x e S (ltb e (length s)) refl c
+      go (not-got w q) S c = absurd (let z : _≡_ {A = ℕ} 0 1 = cc in omega arith)
 
 -- ---- the hypotheses and the goal
-abbrev sequentOf : List ℕ → List Hypothesis → Tree → Sequent
-sequentOf types hs g = record { types = types; hypotheses = hs; goal = g }
-
 rest-seen : (s types : List ℕ) (h : ℕ) (hs : List Hypothesis) (q : ℕ) (g : Tree) (e : ℕ)
-    → hypothesesAt s types h [] (8 + length types) ≡ seen hs q → toEnd s (predicateAt s types q) ≡ seen g e → restAt s types h ≡ seen (sequentOf types hs g) e
+    → hypothesesAt s types h [] (8 + length types) ≡ got hs q → toEnd s (predicateAt s types q) ≡ got g e → restAt s types h ≡ got (sequentOf types hs g) e
 unfolding restAt
 rest-seen s types h hs q g e a b = rw (a, b) refl
 
-module _ (s types : List ℕ) (h : ℕ) (places : List ℕ) (r : Stage) (R : HypothesesAre s types h places r) where
-  pub rest-stops : (x : Stop) → r ≡ stage.Stopped x → StageIs s places (restAt s types h) (stage.Stopped x)
+module _ (s types : List ℕ) (h : ℕ) (places : List ℕ) (r : SequentRead) (R : HypothesesAre s types h places r) where
+  pub rest-stops : (x : Refusal) → r ≡ stage.Stopped x → StageIs s places (restAt s types h) (stage.Stopped x)
   unfolding HypothesesAre StageIs restAt
   rest-stops x q = let H = subst (HypothesesAre s types h places) q R in rw H refl
 
   module _ (v : View) (q : r ≡ stage.Read v) (g : Checked) (g≡ : g ≡ checkOf (toEnd s (predicateAt s types (v .end)))) where
-    pub rest-goal : (x : Stop) → g ≡ checked.Stopped x → StageIs s places (restAt s types h) (stage.Stopped x)
+    pub rest-goal : (x : Refusal) → g ≡ checked.Stopped x → StageIs s places (restAt s types h) (stage.Stopped x)
     unfolding HypothesesAre StageIs restAt
     rest-goal x f =
         let H = subst (HypothesesAre s types h places) q R in
@@ -109,26 +106,12 @@ pub ruleset rests = (rest-stops, rest-goal, rest-read)
 
 -- ---- the type bytes
 module _ (s : List ℕ) where
-  to-end : (f : Tree → Sequent) (z : Seen Tree) → onSeen (toEnd s z) (λ g e. seen (f g) e) ≡ onSeen z (λ g e. pick (ltb e (length s)) (not-seen why.After e) (seen (f g) e))
-  to-end f (not-seen w p) = refl
-  to-end f (seen g e) = go (ltb e (length s))
-    where
-      go : (t : Bool) → onSeen (pick t (not-seen why.After e) (seen g e)) (λ g e. seen (f g) e) ≡ pick t (not-seen why.After e) (seen (f g) e)
-      go true = refl
-      go false = refl
-
-  body-rest : (ts : List ℕ) → typesAt s (getD s 5 0) 8 ≡ seen ts (8 + length ts) → bodyAt s ≡ restAt s ts (getD s 6 0)
+  body-rest : (ts : List ℕ) → typesAt s (getD s 5 0) 8 ≡ got ts (8 + length ts) → bodyAt s ≡ restAt s ts (getD s 6 0)
   unfolding bodyAt restAt
-  body-rest ts e = rw e (go (hypothesesAt s ts (getD s 6 0) [] (8 + length ts)))
-    where
-      go : (z : Seen (List Hypothesis))
-          → onSeen z (λ hs q. onSeen (predicateAt s ts q) (λ g e. pick (ltb e (length s)) (not-seen why.After e) (seen (sequentOf ts hs g) e)))
-          ≡ onSeen z (λ hs q. onSeen (toEnd s (predicateAt s ts q)) (λ g e. seen (sequentOf ts hs g) e))
-      go (seen hs q) = sym (to-end (sequentOf ts hs) (predicateAt s ts q))
-      go (not-seen w q) = refl
+  body-rest ts e = rw e refl
 
   module _ (long : 8 ≤ length s) (t : ℕ) (c : Checked) (c≡ : c ≡ checkOf (typesAt s t 8)) where
-    pub body-stops : (x : Stop) (places : List ℕ) → t ≡ getD s 5 0 → c ≡ checked.Stopped x → StageIs s places (bodyAt s) (stage.Stopped x)
+    pub body-stops : (x : Refusal) (places : List ℕ) → t ≡ getD s 5 0 → c ≡ checked.Stopped x → StageIs s places (bodyAt s) (stage.Stopped x)
     unfolding StageIs bodyAt
     body-stops x places e f = rw (← e, check-stopped (typesAt s t 8) x (sym c≡ ∙ f)) refl
 
@@ -137,7 +120,7 @@ module _ (s : List ℕ) where
       record TypesAre : Type 0 where
         inside : 8 + t ≤ length s
         so-long : length (take (8 + t - 8) (drop 8 s)) ≡ t
-        seen-is : typesAt s t 8 ≡ seen (take (8 + t - 8) (drop 8 s)) (8 + t)
+        seen-is : typesAt s t 8 ≡ got (take (8 + t - 8) (drop 8 s)) (8 + t)
 
       types-are : TypesAre
       types-are =
@@ -165,43 +148,38 @@ module _ (s : List ℕ) where
       pub types-taken : take (length (take (8 + t - 8) (drop 8 s))) (drop 8 s) ≡ take (8 + t - 8) (drop 8 s)
       types-taken = let n : t ≡ 8 + t - 8 = omega arith in ap (λ (k : ℕ). take k (drop 8 s)) (types-are .so-long ∙ n)
 
-      pub body-is : (h : ℕ) (places : List ℕ) (r : Stage) → t ≡ getD s 5 0 → h ≡ getD s 6 0 → StageIs s places (restAt s (take (8 + t - 8) (drop 8 s)) h) r → StageIs s places (bodyAt s) r
+      pub body-is : (h : ℕ) (places : List ℕ) (r : SequentRead) → t ≡ getD s 5 0 → h ≡ getD s 6 0 → StageIs s places (restAt s (take (8 + t - 8) (drop 8 s)) h) r → StageIs s places (bodyAt s) r
       body-is h places r e g R =
           let ts = take (8 + t - 8) (drop 8 s) in
-          let q : typesAt s (getD s 5 0) 8 ≡ seen ts (8 + length ts) = subst (λ (k : ℕ). typesAt s k 8 ≡ seen ts (8 + length ts)) e (types-are .seen-is ∙ ap (λ (k : ℕ). seen ts (8 + k)) (sym (types-are .so-long))) in
-          subst (λ (z : Seen Sequent). StageIs s places z r) (ap (restAt s ts) g ∙ sym (body-rest ts q)) R
+          let q : typesAt s (getD s 5 0) 8 ≡ got ts (8 + length ts) = subst (λ (k : ℕ). typesAt s k 8 ≡ got ts (8 + length ts)) e (types-are .seen-is ∙ ap (λ (k : ℕ). got ts (8 + k)) (sym (types-are .so-long))) in
+          subst (λ (z : Parsed Sequent). StageIs s places z r) (ap (restAt s ts) g ∙ sym (body-rest ts q)) R
 
 pub ruleset bodies = (body-stops, types-end, types-fit, types-before, types-taken, body-is)
 
 -- ---- the header
-record HeaderFine (s : List ℕ) (z : Seen Sequent) : Type 0 where
+record HeaderFine (s : List ℕ) (z : Parsed Sequent) : Type 0 where
   long : 8 ≤ length s
   few : getD s 6 0 ≤ 64
   seen-is : z ≡ bodyAt s
 
-abbrev HeaderIs : List ℕ → Seen Sequent → Checked → Type 0
+abbrev HeaderIs : List ℕ → Parsed Sequent → Checked → Type 0
 HeaderIs s z checked.Fine = HeaderFine s z
-HeaderIs s z (checked.Stopped x) = z ≡ not-seen (x .why) (x .at)
+HeaderIs s z (checked.Stopped x) = z ≡ not-got (x .cause) (x .at)
 
-header-is : (s : List ℕ) → HeaderIs s (readSequent s) (headerAt s)
-unfolding headerAt readSequent
-header-is s = go (ltb (length s) 8 || ltb 60000 (length s)) (badMark s) (badVersion s) (badNumbers s) refl refl
+header-is : (s : List ℕ) → HeaderIs s (readSequent s) (checkOf (headerAt s))
+unfolding readSequent
+header-is s = go (headerAt s) (header-passed s)
   where
-    go : (a b c d : Bool) → (ltb (length s) 8 || ltb 60000 (length s)) ≡ a → badNumbers s ≡ d
-        → HeaderIs s (pick a (not-seen why.Length 0) (pick b (not-seen why.Mark 0) (pick c (not-seen why.Version 3) (pick d (not-seen why.Header 5) (bodyAt s)))))
-        (pick a (checked.Stopped (stop why.Length 0)) (pick b (checked.Stopped (stop why.Mark 0)) (pick c (checked.Stopped (stop why.Version 3)) (pick d (checked.Stopped (stop why.Header 5)) checked.Fine))))
-    go true b c d e f = refl
-    go false true c d e f = refl
-    go false false true d e f = refl
-    go false false false true e f = refl
-    go false false false false e f = record {
-      long = ltb-false (length s) 8 (or-false (ltb (length s) 8) _ e .0);
-      few = ltb-false 64 (getD s 6 0) (or-false (ltb 64 (getD s 6 0)) _ (or-false (ltb 64 (getD s 5 0)) _ f .1) .0);
+    go : (z : Parsed Bool) → OfGot (HeaderPassed s) z → HeaderIs s (onGot z (λ x p. bodyAt s)) (checkOf z)
+    go (got x p) P = record {
+      long = ltb-false (length s) 8 (or-false (ltb (length s) 8) _ (P .within) .0);
+      few = ltb-false 64 (getD s 6 0) (or-false (ltb 64 (getD s 6 0)) _ (or-false (ltb 64 (getD s 5 0)) _ (P .numbers) .1) .0);
       seen-is = refl;
     }
+    go (not-got c p) P = refl
 
-module _ (s : List ℕ) (c : Checked) (c≡ : c ≡ headerAt s) where
-  pub whole-stops : (x : Stop) (places : List ℕ) → c ≡ checked.Stopped x → WholeIs s places (stage.Stopped x)
+module _ (s : List ℕ) (c : Checked) (c≡ : c ≡ checkOf (headerAt s)) where
+  pub whole-stops : (x : Refusal) (places : List ℕ) → c ≡ checked.Stopped x → WholeIs s places (stage.Stopped x)
   unfolding WholeIs
   whole-stops x places f = subst (HeaderIs s (readSequent s)) (sym c≡ ∙ f) (header-is s)
 
@@ -222,7 +200,7 @@ module _ (s : List ℕ) (c : Checked) (c≡ : c ≡ headerAt s) where
     header-few n e = rw e (fine .few)
 
     -- what is read is accepted
-    pub whole-is : ((i : ℕ) → Fits w8 (getD s i 0)) → (places : List ℕ) (r : Stage) → StageIs s places (bodyAt s) r → WholeIs s places r
+    pub whole-is : ((i : ℕ) → Fits w8 (getD s i 0)) → (places : List ℕ) (r : SequentRead) → StageIs s places (bodyAt s) r → WholeIs s places r
     unfolding WholeIs StageIs
     whole-is B places (stage.Stopped x) R = fine .seen-is ∙ R
     whole-is B places (stage.Read v) R =
@@ -239,13 +217,13 @@ module _ (s : List ℕ) (c : Checked) (c≡ : c ≡ headerAt s) where
 pub ruleset wholes = (whole-stops, header-long, header-types, header-hypotheses, header-few, whole-is)
 
 -- ---- what is answered
-module _ (s places : List ℕ) (r : Stage) (R : WholeIs s places r) where
+module _ (s places : List ℕ) (r : SequentRead) (R : WholeIs s places r) where
   pub open-read : (v : View) → r ≡ stage.Read v → Open s places v
   unfolding WholeIs
   open-read v q = subst (WholeIs s places) q R
 
-  pub open-stops : (x : Stop) (w : Why) (z : Said) → r ≡ stage.Stopped x → w ≡ x .why → z ≡ saidOf w (x .at) (length s) → Not s (readSequent s) z
+  pub open-stops : (x : Refusal) (z : Said) → r ≡ stage.Stopped x → z ≡ saidOf x (length s) → Not s (readSequent s) z
   unfolding WholeIs
-  open-stops x w z q e g = not-is s (readSequent s) (x .why) w (x .at) z (subst (WholeIs s places) q R) e g
+  open-stops x z q g = not-is s (readSequent s) x z (subst (WholeIs s places) q R) g
 
 pub ruleset opens = (open-read, open-stops)

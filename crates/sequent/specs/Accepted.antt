@@ -1,13 +1,11 @@
 -- The sequents that document 01 accepts.
 use Prim.Native.Nat.{ℕ, _≤_}
-use mathlib.Core.Path.{_≡_}
 use mathlib.Core.List.{List, [], _∷_}
-use mathlib.Core.Bool.{false}
 use lib.ListN.{length}
 use Rattle.formula.specs.Formula.{Formula}
 use Rattle.formula.specs.declared.Sort.the-variants as sort
-use Rattle.sequent.specs.Sequent.{Hypothesis, Sequent, present}
-use Rattle.sequent.specs.File.{encodeSequent}
+use Rattle.desk.specs.Sequent.{Hypothesis, Sequent, Different}
+use Rattle.desk.specs.File.{encodeSequent}
 
 -- type bytes 0, 1, 2
 abbrev pub TypeBytes : List ℕ → Type 0
@@ -18,11 +16,6 @@ TypeBytes (b ∷ bs) = (b ≤ 2) × TypeBytes bs
 abbrev pub Predicates : List ℕ → List Hypothesis → Type 0
 Predicates types [] = Unit {0}
 Predicates types (h ∷ hs) = Formula types sort.Predicate (h .formula) × Predicates types hs
-
--- none is equal to a later one
-abbrev pub Different : List Hypothesis → Type 0
-Different [] = Unit {0}
-Different (h ∷ hs) = (present hs (h .formula) ≡ false) × Different hs
 
 pub record AcceptedSequent (q : Sequent) : Type 0 where
   pub few-types : length (q .types) ≤ 64

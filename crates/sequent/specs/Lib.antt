@@ -1,11 +1,4 @@
-pub mod Sequent
-pub mod File
 pub mod Accepted
-pub mod Refusal
 pub mod ReadFile
-pub mod Lent
-pub mod Outcome
-pub mod Desk
-pub mod Masks
-pub mod DeskBytes
-pub mod ReadBytes
+pub mod Counts
+pub mod Mirror

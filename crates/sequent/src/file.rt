@@ -4,29 +4,27 @@ ghost use mathlib.Core.Bool.{_||_};
 ghost use Prim.Native.Nat.{_+_, _<_, _≤_};
 ghost use lib.ListN.{length, getD, take, drop};
 ghost use lib.Dec.{ltb};
-ghost use Rattle.sequent.specs.Masks.{withBit};
+ghost use Rattle.desk.specs.Mirror.Masks.{withBit};
 ghost use Rattle.formula.specs.Pick.{pick};
-ghost use Rattle.formula.specs.Columns.{table};
-ghost use Rattle.sequent.specs.ReadFile.{badMark, badVersion, badNumbers, typesAt, predicateAt, bodyAt};
-ghost use Rattle.sequent.specs.Lent.{toEnd};
-ghost use Rattle.sequent.specs.Desk.{OpenedIs};
-ghost use Rattle.sequent.specs.ReadBytes.{checkOf, endOf, headerAt, itemAt, withHypothesis, HypothesesAre, restAt, StageIs, WholeIs};
+ghost use Rattle.formula.specs.Mirror.PackedTable.{table};
+ghost use Rattle.sequent.specs.ReadFile.{headerAt, badMark, badVersion, badNumbers, typesAt, predicateAt, bodyAt};
+ghost use Rattle.sequent.specs.ReadFile.{toEnd};
+ghost use Rattle.sequent.specs.Mirror.Opened.{OpenedIs};
+ghost use Rattle.sequent.specs.Mirror.ReadBytes.{checkOf, itemAt, withHypothesis, HypothesesAre, restAt, StageIs, WholeIs};
 use super::Checked;
-use super::Ended;
-use super::Item;
+use super::HypothesisRead;
 use super::Opened;
-use super::Stage;
-use super::Stop;
-use super::View;
-use super::Why;
-use super::desk::find_at;
-use super::mask::with_bit;
-use super::refusal::said_of;
+use super::SequentRead;
+use desk::View;
+use desk::find::find;
+use desk::mask::with_bit;
 use formula::Reading;
 use formula::Sort;
-use formula::equal::same;
-use formula::reader::read_with;
 use formula::table::wide;
+use reader::reader::read_with;
+use refusal::Cause;
+use refusal::Refusal;
+use refusal::said_of;
 
 fn wrong_length(len: usize) -> bool
     ensures { λ r. ⌜ r ≡ (ltb len 8 || ltb 60000 len) ⌝ }
@@ -69,29 +67,29 @@ fn wrong_numbers(s: &[u8]) -> bool
 
 // The header is asked 1 (length), 2, 3, 4 in that order.
 fn check_header(s: &[u8]) -> Checked
-    ensures { λ r. ⌜ r ≡ headerAt (now (s .entry)) ⌝ }
+    ensures { λ r. ⌜ r ≡ checkOf (headerAt (now (s .entry))) ⌝ }
 {
     if wrong_length(s.len()) {
-        return Checked::Stopped(Stop {
-            why: Why::Length,
+        return Checked::Stopped(Refusal {
+            cause: Cause::Length,
             at: 0,
         });
     }
     if wrong_mark(s) {
-        return Checked::Stopped(Stop {
-            why: Why::Mark,
+        return Checked::Stopped(Refusal {
+            cause: Cause::Mark,
             at: 0,
         });
     }
     if wrong_version(s) {
-        return Checked::Stopped(Stop {
-            why: Why::Version,
+        return Checked::Stopped(Refusal {
+            cause: Cause::Version,
             at: 3,
         });
     }
     if wrong_numbers(s) {
-        return Checked::Stopped(Stop {
-            why: Why::Header,
+        return Checked::Stopped(Refusal {
+            cause: Cause::Header,
             at: 5,
         });
     }
@@ -106,14 +104,14 @@ fn check_types(s: &[u8], t: usize) -> Checked
     let mut p = 8usize;
     while left != 0 {
         if s.len() <= p {
-            return Checked::Stopped(Stop {
-                why: Why::Length,
+            return Checked::Stopped(Refusal {
+                cause: Cause::Length,
                 at: p,
             });
         }
         if 2 < s[p] {
-            return Checked::Stopped(Stop {
-                why: Why::TypeByte,
+            return Checked::Stopped(Refusal {
+                cause: Cause::TypeByte,
                 at: p,
             });
         }
@@ -123,36 +121,18 @@ fn check_types(s: &[u8], t: usize) -> Checked
     Checked::Fine
 }
 
-// The end of the predicate at p.
-pub fn predicate_end(s: &[u8], rows: &[u64; 51], types: &[u8], p: usize) -> Ended
-    requires { ⌜ now rows ≡ table ⌝ }
-    ensures { λ r. ⌜ r ≡ endOf (predicateAt (now (s .entry)) (now (types .entry)) p) ⌝ }
-{
-    let r = read_with(s, rows, types, Sort::Predicate, p);
-    match r {
-        Reading::Read(end) => Ended::At(end),
-        Reading::Refused(x) => {
-            let c = x.cause;
-            Ended::Stopped(Stop {
-                why: Why::Formula(c),
-                at: x.at,
-            })
-        }
-    }
-}
-
 // The predicate at p, with nothing after it.
 pub fn check_last(s: &[u8], rows: &[u64; 51], types: &[u8], p: usize) -> Checked
     requires { ⌜ now rows ≡ table ⌝ }
     ensures { λ r. ⌜ r ≡ checkOf (toEnd (now (s .entry)) (predicateAt (now (s .entry)) (now (types .entry)) p)) ⌝ }
 {
-    let r = predicate_end(s, rows, types, p);
+    let r = read_with(s, rows, types, Sort::Predicate, p);
     match r {
-        Ended::Stopped(x) => Checked::Stopped(x),
-        Ended::At(end) => {
+        Reading::Refused(x) => Checked::Stopped(x),
+        Reading::Read(end) => {
             if end < s.len() {
-                return Checked::Stopped(Stop {
-                    why: Why::After,
+                return Checked::Stopped(Refusal {
+                    cause: Cause::After,
                     at: end,
                 });
             }
@@ -162,37 +142,43 @@ pub fn check_last(s: &[u8], rows: &[u64; 51], types: &[u8], p: usize) -> Checked
 }
 
 // The hypothesis after those of v: its flag, its formula, then 10 at the formula's first byte.
-fn hypothesis_at(s: &[u8], rows: &[u64; 51], types: &[u8], places: &[usize; 65], v: View) -> Item
+fn hypothesis_at(
+    s: &[u8],
+    rows: &[u64; 51],
+    types: &[u8],
+    places: &[usize; 65],
+    v: View,
+) -> HypothesisRead
     requires { ⌜ now rows ≡ table ⌝ }
-    requires { ⌜ v .h ≤ 64 ⌝ }
-    ensures { λ r. ⌜ r ≡ itemAt (now (s .entry)) (now (types .entry)) (now (places .entry)) (v .h) (v .end) ⌝ }
+    requires { ⌜ v .hypotheses ≤ 64 ⌝ }
+    ensures { λ r. ⌜ r ≡ itemAt (now (s .entry)) (now (types .entry)) (now (places .entry)) (v .hypotheses) (v .end) ⌝ }
 {
     let p = v.end;
     if s.len() <= p {
-        return Item::Stopped(Stop {
-            why: Why::Length,
+        return HypothesisRead::Stopped(Refusal {
+            cause: Cause::Length,
             at: p,
         });
     }
     let flag = s[p];
     if 2 < flag {
-        return Item::Stopped(Stop {
-            why: Why::FlagByte,
+        return HypothesisRead::Stopped(Refusal {
+            cause: Cause::FlagByte,
             at: p,
         });
     }
-    let r = predicate_end(s, rows, types, p + 1);
+    let r = read_with(s, rows, types, Sort::Predicate, p + 1);
     match r {
-        Ended::Stopped(x) => Item::Stopped(x),
-        Ended::At(end) => {
-            let earlier = find_at(s, places, v.h, s, p + 1, end);
-            if earlier < v.h {
-                return Item::Stopped(Stop {
-                    why: Why::Twice,
+        Reading::Refused(x) => HypothesisRead::Stopped(x),
+        Reading::Read(end) => {
+            let earlier = find(s, places, v.hypotheses, s, p + 1, end);
+            if earlier < v.hypotheses {
+                return HypothesisRead::Stopped(Refusal {
+                    cause: Cause::Twice,
                     at: p + 1,
                 });
             }
-            Item::Read(flag, end)
+            HypothesisRead::Read(flag, end)
         }
     }
 }
@@ -207,13 +193,13 @@ fn bit_if(m: u64, i: usize, on: bool) -> u64
 
 // One more hypothesis, with this flag byte and this end.
 fn with_hypothesis(v: View, flag: u8, end: usize) -> View
-    requires { ⌜ v .h < 64 ⌝ }
+    requires { ⌜ v .hypotheses < 64 ⌝ }
     ensures { λ r. ⌜ r ≡ withHypothesis v flag end ⌝ }
 {
-    let i = v.h;
+    let i = v.hypotheses;
     View {
-        t: v.t,
-        h: i + 1,
+        identifiers: v.identifiers,
+        hypotheses: i + 1,
         end: end,
         hidden: bit_if(v.hidden, i, flag == 1),
         selected: bit_if(v.selected, i, flag == 2),
@@ -221,7 +207,13 @@ fn with_hypothesis(v: View, flag: u8, end: usize) -> View
 }
 
 // The h hypotheses after the type bytes; `places` gets where each starts, and where the last one ends.
-fn hypotheses(s: &[u8], rows: &[u64; 51], types: &[u8], h: usize, places: &mut [usize; 65]) -> Stage
+fn hypotheses(
+    s: &[u8],
+    rows: &[u64; 51],
+    types: &[u8],
+    h: usize,
+    places: &mut [usize; 65],
+) -> SequentRead
     requires { ⌜ now rows ≡ table ⌝ }
     requires { ⌜ 8 + length (now types) ≤ length (now s) ⌝ }
     requires { ⌜ take (length (now types)) (drop 8 (now s)) ≡ now types ⌝ }
@@ -233,30 +225,30 @@ fn hypotheses(s: &[u8], rows: &[u64; 51], types: &[u8], h: usize, places: &mut [
     let all = [start; 65];
     *places = all;
     let mut v = View {
-        t: types.len(),
-        h: 0,
+        identifiers: types.len(),
+        hypotheses: 0,
         end: start,
         hidden: 0,
         selected: 0,
     };
-    while v.h < h {
-        let i = v.h;
+    while v.hypotheses < h {
+        let i = v.hypotheses;
         let x = hypothesis_at(s, rows, types, places, v);
         match x {
-            Item::Stopped(y) => {
-                return Stage::Stopped(y);
+            HypothesisRead::Stopped(y) => {
+                return SequentRead::Stopped(y);
             }
-            Item::Read(flag, end) => {
+            HypothesisRead::Read(flag, end) => {
                 v = with_hypothesis(v, flag, end);
             }
         }
         places[i + 1] = v.end;
     }
-    Stage::Read(v)
+    SequentRead::Read(v)
 }
 
 // What follows the type bytes: h hypotheses, the goal, and nothing after it.
-fn rest(s: &[u8], rows: &[u64; 51], types: &[u8], h: usize, places: &mut [usize; 65]) -> Stage
+fn rest(s: &[u8], rows: &[u64; 51], types: &[u8], h: usize, places: &mut [usize; 65]) -> SequentRead
     requires { ⌜ now rows ≡ table ⌝ }
     requires { ⌜ 8 + length (now types) ≤ length (now s) ⌝ }
     requires { ⌜ take (length (now types)) (drop 8 (now s)) ≡ now types ⌝ }
@@ -265,19 +257,19 @@ fn rest(s: &[u8], rows: &[u64; 51], types: &[u8], h: usize, places: &mut [usize;
 {
     let r = hypotheses(s, rows, types, h, places);
     match r {
-        Stage::Stopped(x) => Stage::Stopped(x),
-        Stage::Read(v) => {
+        SequentRead::Stopped(x) => SequentRead::Stopped(x),
+        SequentRead::Read(v) => {
             let g = check_last(s, rows, types, v.end);
             match g {
-                Checked::Stopped(x) => Stage::Stopped(x),
-                Checked::Fine => Stage::Read(v),
+                Checked::Stopped(x) => SequentRead::Stopped(x),
+                Checked::Fine => SequentRead::Read(v),
             }
         }
     }
 }
 
 // What follows the header: t type bytes, then the rest.
-fn body(s: &[u8], rows: &[u64; 51], t: usize, h: usize, places: &mut [usize; 65]) -> Stage
+fn body(s: &[u8], rows: &[u64; 51], t: usize, h: usize, places: &mut [usize; 65]) -> SequentRead
     requires { ⌜ now rows ≡ table ⌝ }
     requires { ⌜ 8 ≤ length (now s) ⌝ }
     requires { ⌜ t ≡ getD (now s) 5 0 ⌝ }
@@ -287,7 +279,7 @@ fn body(s: &[u8], rows: &[u64; 51], t: usize, h: usize, places: &mut [usize; 65]
 {
     let c = check_types(s, t);
     match c {
-        Checked::Stopped(x) => Stage::Stopped(x),
+        Checked::Stopped(x) => SequentRead::Stopped(x),
         Checked::Fine => {
             let e = 8 + t;
             rest(s, rows, &s[8..e], h, places)
@@ -296,13 +288,13 @@ fn body(s: &[u8], rows: &[u64; 51], t: usize, h: usize, places: &mut [usize; 65]
 }
 
 // The header, then what follows it.
-fn whole(s: &[u8], rows: &[u64; 51], places: &mut [usize; 65]) -> Stage
+fn whole(s: &[u8], rows: &[u64; 51], places: &mut [usize; 65]) -> SequentRead
     requires { ⌜ now rows ≡ table ⌝ }
     ensures { λ r. ⌜ WholeIs (now (s .entry)) (now (places .exit)) r ⌝ }
 {
     let c = check_header(s);
     match c {
-        Checked::Stopped(x) => Stage::Stopped(x),
+        Checked::Stopped(x) => SequentRead::Stopped(x),
         Checked::Fine => body(s, rows, wide(s[5]), wide(s[6]), places),
     }
 }
@@ -314,10 +306,7 @@ pub fn open(s: &[u8], rows: &[u64; 51], places: &mut [usize; 65]) -> Opened
 {
     let r = whole(s, rows, places);
     match r {
-        Stage::Stopped(x) => {
-            let w = x.why;
-            Opened::Refused(said_of(w, x.at, s.len()))
-        }
-        Stage::Read(v) => Opened::Read(v),
+        SequentRead::Stopped(x) => Opened::Refused(said_of(x, s.len())),
+        SequentRead::Read(v) => Opened::Read(v),
     }
 }

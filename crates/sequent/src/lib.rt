@@ -1,33 +1,15 @@
-// Sequents of document 01: the file, its flags as masks, and the desk on which acts work.
-pub mod buffer;
-pub mod desk;
+// The sequent file, read: its hypotheses and goal, its flags counted, and every refusal with its place.
 pub mod file;
-pub mod mask;
-pub mod refusal;
 
 ghost use mathlib.Core.Path.{_≡_};
-ghost use Rattle.formula.specs.Columns.{table};
-ghost use Rattle.sequent.specs.Outcome.{readOutcome};
+ghost use Rattle.formula.specs.Mirror.PackedTable.{table};
+ghost use Rattle.sequent.specs.Counts.{readOutcome};
+use desk::View;
+use desk::mask::visible_mask;
 use file::open;
-use formula::Cause;
-use formula::Said;
-use formula::table::TABLE;
-
-// Why a sequent, a lent buffer or an act is refused.
-pub enum Why {
-    Length,
-    Mark,
-    Version,
-    Header,
-    TypeByte,
-    FlagByte,
-    Formula(Cause),
-    Twice,
-    After,
-    ListCount,
-    Room,
-    NotAdded,
-}
+use formula::table::node_table;
+use refusal::Refusal;
+use refusal::Said;
 
 // How many hypotheses are hidden, selected and visible.
 pub struct Counts {
@@ -41,72 +23,28 @@ pub enum Counted {
     Refused(Said),
 }
 
-// An act done: whether it answers "changed", and how many bytes it wrote.
-pub enum Done {
-    Changed(bool, usize),
-    Refused(Said),
-}
-
-// A sequent as the acts hold it: identifiers, hypotheses, where the hypotheses end, and the flags as masks over the 64 hypotheses.
-pub struct View {
-    pub t: usize,
-    pub h: usize,
-    pub end: usize,
-    pub hidden: u64,
-    pub selected: u64,
-}
-
+// A sequent opened in place.
 pub enum Opened {
     Read(View),
     Refused(Said),
 }
 
-// A lent formula: the whole buffer.
-pub enum Lent {
-    Read,
-    Refused(Said),
-}
-
-// A lent list: how many formulas.
-pub enum Listed {
-    Read(usize),
-    Refused(Said),
-}
-
-// A hypothesis appended to the desk, or no room for it.
-pub enum Appended {
-    Done(View),
-    NoRoom,
-}
-
-// A refusal by its cause; `at` is its place, unless the cause says another.
-pub struct Stop {
-    pub why: Why,
-    pub at: usize,
-}
-
 // A part of a file without fault, or its refusal.
 pub enum Checked {
     Fine,
-    Stopped(Stop),
-}
-
-// A formula's end, or its refusal.
-pub enum Ended {
-    At(usize),
-    Stopped(Stop),
+    Stopped(Refusal),
 }
 
 // A hypothesis' flag byte and its end, or its refusal.
-pub enum Item {
+pub enum HypothesisRead {
     Read(u8, usize),
-    Stopped(Stop),
+    Stopped(Refusal),
 }
 
 // A sequent as far as it is read, or its refusal.
-pub enum Stage {
+pub enum SequentRead {
     Read(View),
-    Stopped(Stop),
+    Stopped(Refusal),
 }
 
 // The flags of a sequent, counted; with room for its places.
@@ -120,10 +58,12 @@ fn count_flags(s: &[u8], rows: &[u64; 51], places: &mut [usize; 65]) -> Counted
         Opened::Read(v) => {
             let hidden = u64::count_ones(v.hidden) as usize;
             let selected = u64::count_ones(v.selected) as usize;
+            let shown = visible_mask(v.hypotheses, v.hidden);
+            let visible = u64::count_ones(shown) as usize;
             Counted::Counts(Counts {
                 hidden: hidden,
                 selected: selected,
-                visible: v.h - hidden,
+                visible: visible,
             })
         }
     }
@@ -133,7 +73,7 @@ fn count_flags(s: &[u8], rows: &[u64; 51], places: &mut [usize; 65]) -> Counted
 pub fn read(s: &[u8]) -> Counted
     ensures { λ r. ⌜ r ≡ readOutcome (now (s .entry)) ⌝ }
 {
-    let rows = TABLE;
+    let rows = node_table();
     let mut places = [0usize; 65];
     count_flags(s, &rows, &mut places)
 }

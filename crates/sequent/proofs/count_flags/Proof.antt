@@ -12,6 +12,7 @@ count-flags-spec =
     (λ c. search needs)
     (λ c. search (needs, counts) depth 7)
     (λ c. search (needs, counts) depth 7)
+    (λ c κs. search needs)
     (λ c. search (needs, counts) depth 7)
     (λ c. search (needs, counts) depth 7)
     (λ c. search (needs, counts) depth 7))

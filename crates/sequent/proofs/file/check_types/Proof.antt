@@ -1,6 +1,6 @@
 use mathlib.Core.Path.{_≡_}
 use Rattle.sequent.specs.ReadFile.{typesAt}
-use Rattle.sequent.specs.ReadBytes.{checkOf}
+use Rattle.sequent.specs.Mirror.ReadBytes.{checkOf}
 use Rattle.sequent.proofs.FileLaws.{typeBytes}
 use borrow.Author.Needs.{needs}
 use Rattle.sequent.proofs.file.check_types.Statement.{statement}

@@ -1,7 +1,0 @@
-use borrow.Author.Needs.{needs}
-use Rattle.acts.proofs.InferLaws.{reselecting}
-use Rattle.acts.proofs.infer.reselects.Statement.{statement}
-use Rattle.acts.proofs.infer.reselects.Tie as tie
-
-pub reselects-spec : {M : Type 1} → statement M
-reselects-spec = tie.close (tie.spec (λ c. search (needs, reselecting) depth 7) (λ c. search (needs, reselecting) depth 7) (λ c κs. search needs) (λ c. search (needs, reselecting) depth 7) (λ c. search (needs, reselecting) depth 7))

@@ -1,0 +1,4 @@
+pub mod Desk
+pub mod Masks
+pub mod Bytes
+pub mod Moves

@@ -1,0 +1,2 @@
+-- what mirrors the code
+pub mod Mirror

@@ -1,9 +1,0 @@
-use Rattle.sequent.proofs.MaskLaws.{masks}
-use borrow.Author.Needs.{needs}
-use Rattle.sequent.proofs.mask.has_bit.Statement.{statement}
-use Rattle.sequent.proofs.mask.has_bit.Tie as tie
-use Rattle.sequent.proofs.mask.has_bit.Reads as reads
-use Rattle.sequent.proofs.mask.has_bit.Lts as lts
-
-pub has-bit-spec : {M : Type 1} → statement M
-has-bit-spec = tie.close (tie.spec (λ c. search needs) (λ c. search (needs, masks) depth 7))
