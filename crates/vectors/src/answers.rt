@@ -1,165 +1,141 @@
-// The acts of the line format: what each takes, and what it answers.
-ghost use mathlib.Core.Path.{_≡_};
-ghost use Prim.Native.Nat.{_≤_};
-ghost use Rattle.vectors.specs.Answers.{actAt, buffersOf, roomsOf, readingOf, readTwice, sameBehind, Answered};
-use super::reply::Reply;
-use super::reply::is_moved;
-use super::reply::of_counted;
-use super::reply::of_done;
-use super::reply::of_outcome;
+// What the acts answer to the buffers that a line lends.
+use super::questions::buffer;
+use super::text::NO_NUMBER;
+use buffers::Done;
 use formula::Outcome;
 use formula::Sort;
-use formula::equal::same;
-use formula::outcome_of;
-use formula::reader::read_formula;
+use formula::equal::same_range;
+use reader::outcome_of;
+use reader::reader::read_formula;
+use sequent::Counted;
 
-// In the order of their names.
-pub enum Act {
-    Formula,
-    Expression,
-    Equal,
-    Read,
-    Select,
-    Deselect,
-    Hide,
-    Show,
-    Modify,
-    Forward,
-    Rewrite,
-    Genmp,
-    OnePoint,
+// An answer's words: `refuse` or `ok`, up to three numbers, and the digits of the bytes written; the place of the last word.
+pub struct Reply {
+    pub refused: bool,
+    pub a: usize,
+    pub b: usize,
+    pub c: usize,
+    pub written: usize,
+    pub last: usize,
 }
 
-// How many names there are.
-pub const ACTS: usize = 13;
-
-// The act of the name at this place.
-pub fn act_at(place: usize) -> Act
-    ensures { λ r. ⌜ r ≡ actAt place ⌝ }
-{
-    match place {
-        0 => Act::Formula,
-        1 => Act::Expression,
-        2 => Act::Equal,
-        3 => Act::Read,
-        4 => Act::Select,
-        5 => Act::Deselect,
-        6 => Act::Hide,
-        7 => Act::Show,
-        8 => Act::Modify,
-        9 => Act::Forward,
-        10 => Act::Rewrite,
-        11 => Act::Genmp,
-        _ => Act::OnePoint,
+fn refused(number: usize, place: usize) -> Reply {
+    Reply {
+        refused: true,
+        a: number,
+        b: place,
+        c: NO_NUMBER,
+        written: 0,
+        last: 2,
     }
 }
 
-// How many buffers are lent with an act.
-pub fn buffers_of(act: Act) -> usize
-    ensures { λ r. ⌜ r ≡ buffersOf act ⌝ }
-    ensures { λ r. ⌜ r ≤ 4 ⌝ }
-{
+// One number.
+fn number(n: usize) -> Reply {
+    Reply {
+        refused: false,
+        a: n,
+        b: NO_NUMBER,
+        c: NO_NUMBER,
+        written: 0,
+        last: 1,
+    }
+}
+
+// What is said of the formula that starts at `start`, its places counted from there.
+fn reading(s: &[u8], types: &[u8], sort: Sort, start: usize) -> Reply {
+    match outcome_of(s.len(), read_formula(s, types, sort, start)) {
+        Outcome::Read(end) => {
+            if end < start {
+                return number(usize::MAX);
+            }
+            number(end - start)
+        }
+        Outcome::Refused(z) => {
+            if z.place < start {
+                return number(usize::MAX);
+            }
+            refused(z.number, z.place - start)
+        }
+    }
+}
+
+// A formula is asked alone, and behind three bytes: another answer there is no answer.
+fn of_formula(line: &[u8], work: &[u8], sort: Sort) -> Reply {
+    let types = buffer(line, work, 1, 3);
+    let x = reading(buffer(line, work, 2, 3), types, sort, 0);
+    let y = reading(buffer(line, work, 2, 0), types, sort, 3);
+    if x.last == y.last {
+        if x.a == y.a {
+            if x.b == y.b {
+                return x;
+            }
+        }
+    }
+    number(usize::MAX)
+}
+
+// Whether two formulas are equal, the right one behind three bytes.
+fn of_equal(line: &[u8], work: &[u8]) -> Reply {
+    let x = buffer(line, work, 2, 3);
+    let y = buffer(line, work, 3, 0);
+    if same_range(x, 0, x.len(), y, 3, y.len()) {
+        return number(1);
+    }
+    number(0)
+}
+
+fn of_read(s: &[u8]) -> Reply {
+    match sequent::read(s) {
+        Counted::Counts(n) => Reply {
+            refused: false,
+            a: n.hidden,
+            b: n.selected,
+            c: n.visible,
+            written: 0,
+            last: 3,
+        },
+        Counted::Refused(z) => refused(z.number, z.place),
+    }
+}
+
+// The acts that answer with numbers, by their place among the names.
+pub fn answer(act: usize, line: &[u8], work: &[u8]) -> Reply {
     match act {
-        Act::Formula => 2,
-        Act::Expression => 2,
-        Act::Equal => 3,
-        Act::Read => 1,
-        Act::Select => 2,
-        Act::Deselect => 2,
-        Act::Hide => 2,
-        Act::Show => 2,
-        Act::Modify => 4,
-        Act::Forward => 3,
-        Act::Rewrite => 4,
-        Act::Genmp => 1,
-        Act::OnePoint => 2,
+        0 => of_formula(line, work, Sort::Predicate),
+        1 => of_formula(line, work, Sort::Expression),
+        2 => of_equal(line, work),
+        _ => of_read(buffer(line, work, 1, 3)),
     }
 }
 
-// How many rooms for results.
-pub fn rooms_of(act: Act) -> usize
-    ensures { λ r. ⌜ r ≡ roomsOf act ⌝ }
-    ensures { λ r. ⌜ r ≤ 2 ⌝ }
-{
+// The acts that write a sequent.
+fn done(act: usize, line: &[u8], work: &[u8], out: &mut [u8]) -> Done {
+    let s = buffer(line, work, 1, 3);
+    let a = buffer(line, work, 2, 3);
+    let b = buffer(line, work, 3, 3);
+    let c = buffer(line, work, 4, 3);
     match act {
-        Act::Formula => 0,
-        Act::Expression => 0,
-        Act::Equal => 0,
-        Act::Read => 0,
-        Act::Select => 1,
-        Act::Deselect => 1,
-        Act::Hide => 1,
-        Act::Show => 1,
-        Act::Modify => 1,
-        Act::Forward => 1,
-        Act::Rewrite => 1,
-        Act::Genmp => 2,
-        Act::OnePoint => 2,
+        4 => acts::select(s, a, out),
+        5 => acts::deselect(s, a, out),
+        6 => acts::hide(s, a, out),
+        7 => acts::show(s, a, out),
+        8 => acts::modify(s, a, b, c, out),
+        9 => acts::forward(s, a, b, out),
+        _ => acts::rewrite(s, a, b, c, out),
     }
 }
 
-// What is said of the formula that starts at `start`.
-fn reading(s: &[u8], types: &[u8], sort: Sort, start: usize) -> Outcome
-    ensures { λ r. ⌜ r ≡ readingOf (now (s .entry)) (now (types .entry)) sort start ⌝ }
-{
-    let r = read_formula(s, types, sort, start);
-    outcome_of(s.len(), r)
-}
-
-// A formula is asked alone, and behind three bytes.
-fn read_twice(alone: &[u8], behind: &[u8], types: &[u8], sort: Sort) -> Reply
-    ensures { λ r. ⌜ r ≡ readTwice (now (alone .entry)) (now (behind .entry)) (now (types .entry)) sort ⌝ }
-{
-    let x = reading(alone, types, sort, 0);
-    let y = reading(behind, types, sort, 3);
-    if is_moved(x, y) {
-        return of_outcome(x);
-    }
-    Reply::Behind(y)
-}
-
-// Whether two formulas are equal, the right one behind three bytes; the lengths are asked first.
-fn same_behind(left: &[u8], right: &[u8]) -> bool
-    ensures { λ r. ⌜ r ≡ sameBehind (now (left .entry)) (now (right .entry)) ⌝ }
-{
-    if right.len() < 3 {
-        return false;
-    }
-    if right.len() - 3 != left.len() {
-        return false;
-    }
-    same(left, 0, right, 3, left.len())
-}
-
-// What the act answers to the buffers that a line lends, of which the second and the third are also lent behind three
-// bytes.
-pub fn answer(
-    act: Act,
-    first: &[u8],
-    second: &[u8],
-    third: &[u8],
-    fourth: &[u8],
-    behind_second: &[u8],
-    behind_third: &[u8],
-    out: &mut [u8],
-    report: &mut [u8],
-) -> Reply
-    ensures { λ x. ⌜ Answered act (now (first .entry)) (now (second .entry)) (now (third .entry)) (now (fourth .entry)) (now («behind_second» .entry)) (now («behind_third» .entry)) (now (out .entry)) (now (out .exit)) (now (report .entry)) (now (report .exit)) x ⌝ }
-{
-    match act {
-        Act::Formula => read_twice(second, behind_second, first, Sort::Predicate),
-        Act::Expression => read_twice(second, behind_second, first, Sort::Expression),
-        Act::Equal => Reply::Equal(same_behind(second, behind_third)),
-        Act::Read => of_counted(sequent::read(first)),
-        Act::Select => of_done(acts::select(first, second, out)),
-        Act::Deselect => of_done(acts::deselect(first, second, out)),
-        Act::Hide => of_done(acts::hide(first, second, out)),
-        Act::Show => of_done(acts::show(first, second, out)),
-        Act::Modify => of_done(acts::modify(first, second, third, fourth, out)),
-        Act::Forward => of_done(acts::forward(first, second, third, out)),
-        Act::Rewrite => of_done(acts::rewrite(first, second, third, fourth, out)),
-        // These two acts are not there yet.
-        Act::Genmp => Reply::Waits,
-        Act::OnePoint => Reply::Waits,
+pub fn written(act: usize, line: &[u8], work: &[u8], out: &mut [u8]) -> Reply {
+    match done(act, line, work, out) {
+        Done::Changed(b, n) => Reply {
+            refused: false,
+            a: b as usize,
+            b: NO_NUMBER,
+            c: NO_NUMBER,
+            written: n,
+            last: 2,
+        },
+        Done::Refused(z) => refused(z.number, z.place),
     }
 }

@@ -1,144 +1,93 @@
-// The answers counted by act and kind, and what is said of the counts.
-ghost use mathlib.Core.Path.{_≡_};
-ghost use lib.ListN.{getD};
-ghost use Rattle.vectors.specs.Tally.{changedKind, equalKind, refusedKind, kindOf, cellOf, counted};
-ghost use Rattle.vectors.specs.Tally.{more as Tally·more};
-use super::answers::ACTS;
-use super::reply::Reply;
-use super::say::say;
-use super::say::say_number;
-use super::words::word_at;
+// Each line counted by its act and by what became of it, and what is said.
+use super::judge::RIGHT;
+use super::judge::WAITS;
+use super::judge::verdict;
+use super::questions::NAMES;
+use super::questions::act_of;
+use super::text::part;
+use super::text::word;
+use formula::bytes::small_at;
+use libc::STDOUT_FILENO;
 
-// How many kinds of answers there are: 0 accepted, 1 changed, 2 unchanged, 3 equal, 4 unequal, 5 not asked, and 5 + k
-// refused with k, up to 18.
-const KINDS: usize = 24;
+// A row for each name, with a cell for each of these but the last, and behind the rows a cell for the number of lines. What
+// stands from `missed` on is wrong.
+const COLUMNS: [u8; 95] =
+    *b"right not-asked found planted-not-asked missed differs changed-byte blind-byte unreadable lines";
 
-// A count for each kind of each act.
-const CELLS: usize = 312;
-
-fn changed_kind(changed: bool) -> usize
-    ensures { λ r. ⌜ r ≡ changedKind changed ⌝ }
-{
-    if changed { 1 } else { 2 }
-}
-
-fn equal_kind(equal: bool) -> usize
-    ensures { λ r. ⌜ r ≡ equalKind equal ⌝ }
-{
-    if equal { 3 } else { 4 }
-}
-
-// A number that document 01 does not have is of no kind.
-fn refused_kind(number: usize) -> usize
-    ensures { λ r. ⌜ r ≡ refusedKind number ⌝ }
-{
-    if number == 0 {
-        return KINDS;
-    }
-    if 18 < number {
-        return KINDS;
-    }
-    5 + number
-}
-
-fn kind_of(r: Reply) -> usize
-    ensures { λ k. ⌜ k ≡ kindOf r ⌝ }
-{
-    match r {
-        Reply::Refused(z) => refused_kind(z.number),
-        Reply::End(_) => 0,
-        Reply::Behind(_) => KINDS,
-        Reply::Equal(equal) => equal_kind(equal),
-        Reply::Counts(_) => 0,
-        Reply::Done(changed, _) => changed_kind(changed),
-        Reply::Two(_, _) => 0,
-        Reply::Waits => 5,
-    }
-}
-
-// Where the count of an act's kind stands: a row of kinds for each act.
-fn cell(act: usize, kind: usize) -> usize
-    ensures { λ r. ⌜ r ≡ cellOf act kind ⌝ }
-{
-    if ACTS <= act {
-        return CELLS;
-    }
-    if KINDS <= kind {
-        return CELLS;
-    }
-    act * KINDS + kind
-}
-
-// One more; no run comes to the limit.
-pub fn more(n: u64) -> u64
-    ensures { λ r. ⌜ r ≡ Tally·more n ⌝ }
-{
-    if n < 1000000000 { n + 1 } else { n }
-}
-
-pub fn count(counts: &mut [u64], act: usize, r: Reply)
-    ensures { λ _. ⌜ now (counts .exit) ≡ counted (now (counts .entry)) (cellOf act (kindOf r)) ⌝ }
-{
-    let i = cell(act, kind_of(r));
+// One more in a cell, and how many it then has; no run comes to the limit.
+fn count(counts: &mut [u64], i: usize) -> u64 {
     if i < counts.len() {
-        counts[i] = more(counts[i]);
-    }
-}
-
-fn count_at(counts: &[u64], act: usize, kind: usize) -> u64
-    ensures { λ r. ⌜ r ≡ getD (now (counts .entry)) (cellOf act kind) 0 ⌝ }
-{
-    let i = cell(act, kind);
-    if i < counts.len() { counts[i] } else { 0 }
-}
-
-fn say_kind(kind: usize) {
-    match kind {
-        0 => say(b" accepted"),
-        1 => say(b" changed"),
-        2 => say(b" unchanged"),
-        3 => say(b" equal"),
-        4 => say(b" unequal"),
-        5 => say(b" not asked yet"),
-        _ => {
-            say(b" refused with ");
-            say_number(kind - 5);
+        let n = counts[i];
+        if n < 1000000000 {
+            counts[i] = n + 1;
+            return n + 1;
         }
     }
+    0
 }
 
-// A count that is not 0; answers whether the next one is still the first of its act that is said.
-fn say_count(n: u64, kind: usize, first: bool) -> bool {
-    if n == 0 {
-        return first;
-    }
-    if first {
-        say(b": ");
-    } else {
-        say(b", ");
-    }
-    say_number(n as usize);
-    say_kind(kind);
-    false
+// A line is counted in its cell, in the last row, and among all lines; one that is not as it should be is said.
+pub fn settle(counts: &mut [u64], cell: usize) {
+    count(counts, cell);
+    count(counts, 126 + cell % 9);
+    say_wrong(count(counts, 135), cell % 9);
 }
 
-// The kinds of an act that occur.
-fn say_act(counts: &[u64], act: usize) {
-    let mut first = true;
-    let mut kind = 0;
-    while kind < KINDS {
-        first = say_count(count_at(counts, act, kind), kind, first);
-        kind += 1;
+fn say_wrong(number: u64, column: usize) {
+    if column < 4 {
+        return;
     }
-    say(b"\n");
+    io::write_all(STDOUT_FILENO, b"line ");
+    io::print_decimal(STDOUT_FILENO, number);
+    say_column(column);
+    io::write_all(STDOUT_FILENO, b"\n");
 }
 
-// A line for each act.
-pub fn say_acts(names: &[u8], counts: &[u64]) {
-    let mut act = 0;
-    while act < ACTS {
-        say(word_at(names, act));
-        say_act(counts, act);
-        act += 1;
+fn say_column(column: usize) {
+    let columns = COLUMNS;
+    io::write_all(STDOUT_FILENO, b" ");
+    io::write_all(STDOUT_FILENO, word(&columns, column));
+}
+
+// What became of a line, by the verdict. One that is planted must be found wrong.
+fn column_of(planted: bool, verdict: usize) -> usize {
+    if !planted {
+        return verdict;
+    }
+    match verdict {
+        RIGHT => 4,
+        WAITS => 3,
+        _ => 2,
+    }
+}
+
+// The cell of a line. A mark before it says that it is planted.
+pub fn cell_of(line: &[u8], work: &mut [u8], out: &mut [u8]) -> usize {
+    let planted = small_at(line, 0) == b'!';
+    let asked = part(line, planted as usize, line.len());
+    let act = act_of(asked);
+    let column = column_of(planted, verdict(act, asked, work, out));
+    act % 14 * 9 + column % 9
+}
+
+// A count that is not 0; the row's name is before the first.
+fn say_cell(i: usize, n: u64) {
+    if i % 9 == 0 {
+        let names = NAMES;
+        io::write_all(STDOUT_FILENO, b"\n");
+        io::write_all(STDOUT_FILENO, word(&names, i / 9));
+    }
+    if 0 < n {
+        say_column(i % 9 + i / 135 * 9);
+        io::write_all(STDOUT_FILENO, b"=");
+        io::print_decimal(STDOUT_FILENO, n);
+    }
+}
+
+pub fn say_tally(counts: &[u64]) {
+    let mut i = 0;
+    while i < counts.len() {
+        say_cell(i, counts[i]);
+        i += 1;
     }
 }
