@@ -4,9 +4,11 @@ use mathlib.Core.List.{List}
 use lib.ListN.{length}
 use lib.Dec.{eqb}
 use mathlib.Core.Bool.{Bool, true, false}
-use Rattle.formula.specs.Formula.{readFormula, said}
+use Rattle.formula.specs.Formula as F
+use Rattle.formula.specs.Formula.{readFormula}
 use Rattle.formula.specs.declared.Sort.{Sort}
 use Rattle.formula.specs.declared.Sort.the-variants as sort
+use Rattle.refusal.specs.declared.Said.{Said}
 use Rattle.formula.specs.declared.Outcome.{Outcome}
 use Rattle.formula.specs.declared.Outcome.the-variants as outcome
 
@@ -20,14 +22,13 @@ sortAsked expression = sortIf (eqb expression 0)
 
 -- the formula of the buffer s that starts at `start`
 unfoldable pub readHere : List ℕ → List ℕ → ℕ → ℕ → Outcome
-readHere s types expression start = said (length s) (readFormula s types (sortAsked expression) start)
+readHere s types expression start = F.said (length s) (readFormula s types (sortAsked expression) start)
 
--- 0 for a formula read, else document 01's number of the refusal
-abbrev pub answerOf : Outcome → ℕ
-answerOf (outcome.Read end) = 0
-answerOf (outcome.Refused x) = x .number
+-- a number and a place
+abbrev pub said : ℕ → ℕ → Said
+said n p = record { number = n; place = p }
 
--- the formula's end, else the place of the refusal
-abbrev pub placeAfter : Outcome → ℕ
-placeAfter (outcome.Read end) = end
-placeAfter (outcome.Refused x) = x .place
+-- 0 and the formula's end, else the number of the refusal and its place
+abbrev pub told : Outcome → Said
+told (outcome.Read end) = said 0 end
+told (outcome.Refused x) = x

@@ -3,58 +3,35 @@ use Prim.Native.Nat.{ℕ}
 use mathlib.Core.Path.{_≡_}
 use mathlib.Core.List.{List}
 use mathlib.Core.Bool.{Bool, true, false}
-use Rattle.sequent.specs.Outcome.{Outcome, answerOf, written}
+use Rattle.buffers.specs.Outcome.{Outcome, answerOf, written}
 use Rattle.sequent.specs.declared.Counted.{Counted}
 use Rattle.sequent.specs.declared.Counted.the-variants as counted
-use Rattle.sequent.specs.declared.Done.{Done}
-use Rattle.sequent.specs.declared.Done.the-variants as done
+use Rattle.buffers.specs.declared.Done.{Done}
+use Rattle.buffers.specs.declared.Done.the-variants as done
+use Rattle.c_api.specs.declared.Tally.{Tally}
+use Rattle.c_api.specs.declared.Act.{Act}
 
 -- ---- reading
-abbrev pub countedAnswer : Counted → ℕ
-countedAnswer (counted.Counts n) = 0
-countedAnswer (counted.Refused z) = z .number
+abbrev pub counts : (answer hidden selected visible place : ℕ) → Tally
+counts r h s v p = record { answer = r; hidden = h; selected = s; visible = v; place = p }
 
-abbrev pub hiddenAfter : Counted → ℕ → ℕ
-hiddenAfter (counted.Counts n) old = n .hidden
-hiddenAfter (counted.Refused z) old = old
-
-abbrev pub selectedAfter : Counted → ℕ → ℕ
-selectedAfter (counted.Counts n) old = n .selected
-selectedAfter (counted.Refused z) old = old
-
-abbrev pub visibleAfter : Counted → ℕ → ℕ
-visibleAfter (counted.Counts n) old = n .visible
-visibleAfter (counted.Refused z) old = old
-
-abbrev pub countedPlace : Counted → ℕ → ℕ
-countedPlace (counted.Counts n) old = old
-countedPlace (counted.Refused z) old = z .place
+abbrev pub countsTold : Counted → Tally → Tally
+countsTold (counted.Counts n) old = counts 0 (n .hidden) (n .selected) (n .visible) (old .place)
+countsTold (counted.Refused z) old = counts (z .number) (old .hidden) (old .selected) (old .visible) (z .place)
 
 -- ---- an act
-abbrev pub doneAnswer : Done → ℕ
-doneAnswer (done.Changed b n) = 0
-doneAnswer (done.Refused z) = z .number
-
 abbrev pub bit : Bool → ℕ
 bit true = 1
 bit false = 0
 
-abbrev pub changedAfter : Done → ℕ → ℕ
-changedAfter (done.Changed b n) old = bit b
-changedAfter (done.Refused z) old = old
+abbrev pub act : (answer changed size place : ℕ) → Act
+act r c n p = record { answer = r; changed = c; size = n; place = p }
 
-abbrev pub lengthAfter : Done → ℕ → ℕ
-lengthAfter (done.Changed b n) old = n
-lengthAfter (done.Refused z) old = old
+abbrev pub actTold : Done → Act → Act
+actTold (done.Changed b n) old = act 0 (bit b) n (old .place)
+actTold (done.Refused z) old = act (z .number) (old .changed) (old .size) (z .place)
 
-abbrev pub donePlace : Done → ℕ → ℕ
-donePlace (done.Changed b n) old = old
-donePlace (done.Refused z) old = z .place
-
--- the answer of a function that does an act, and what it leaves in the lent buffer, "changed", the length and the place
-pub record Tells (o : Outcome) (out out′ : List ℕ) (changed changed′ size size′ place place′ r : ℕ) : Type 0 where
-  pub answer-is : r ≡ doneAnswer (answerOf o)
+-- what a function that does an act tells, and what it leaves in the lent buffer
+pub record Tells (o : Outcome) (out out′ : List ℕ) (old new : Act) : Type 0 where
+  pub told-is : new ≡ actTold (answerOf o) old
   pub out-is : out′ ≡ written o out
-  pub changed-is : changed′ ≡ changedAfter (answerOf o) changed
-  pub size-is : size′ ≡ lengthAfter (answerOf o) size
-  pub place-is : place′ ≡ donePlace (answerOf o) place

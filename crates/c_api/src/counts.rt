@@ -1,51 +1,29 @@
 // Reading a sequent, for C.
 ghost use mathlib.Core.Path.{_≡_};
-ghost use Rattle.sequent.specs.Outcome.{readOutcome};
-ghost use Rattle.c_api.specs.Sequent.{countedAnswer, hiddenAfter, selectedAfter, visibleAfter, countedPlace};
+ghost use Rattle.sequent.specs.Counts.{readOutcome};
+ghost use Rattle.c_api.specs.Sequent.{counts, countsTold};
+use super::Tally;
 use sequent::Counted;
 
-fn answer(c: Counted) -> usize
-    ensures { λ r. ⌜ r ≡ countedAnswer c ⌝ }
+// What is told of a sequent read; what does not apply keeps its value.
+fn tell(c: Counted, old: Tally) -> Tally
+    ensures { λ r. ⌜ r ≡ countsTold c old ⌝ }
 {
     match c {
-        Counted::Counts(_) => 0,
-        Counted::Refused(z) => z.number,
-    }
-}
-
-fn hidden_after(c: Counted, old: usize) -> usize
-    ensures { λ r. ⌜ r ≡ hiddenAfter c old ⌝ }
-{
-    match c {
-        Counted::Counts(n) => n.hidden,
-        Counted::Refused(_) => old,
-    }
-}
-
-fn selected_after(c: Counted, old: usize) -> usize
-    ensures { λ r. ⌜ r ≡ selectedAfter c old ⌝ }
-{
-    match c {
-        Counted::Counts(n) => n.selected,
-        Counted::Refused(_) => old,
-    }
-}
-
-fn visible_after(c: Counted, old: usize) -> usize
-    ensures { λ r. ⌜ r ≡ visibleAfter c old ⌝ }
-{
-    match c {
-        Counted::Counts(n) => n.visible,
-        Counted::Refused(_) => old,
-    }
-}
-
-fn place_after(c: Counted, old: usize) -> usize
-    ensures { λ r. ⌜ r ≡ countedPlace c old ⌝ }
-{
-    match c {
-        Counted::Counts(_) => old,
-        Counted::Refused(z) => z.place,
+        Counted::Counts(n) => Tally {
+            answer: 0,
+            hidden: n.hidden,
+            selected: n.selected,
+            visible: n.visible,
+            place: old.place,
+        },
+        Counted::Refused(z) => Tally {
+            answer: z.number,
+            hidden: old.hidden,
+            selected: old.selected,
+            visible: old.visible,
+            place: z.place,
+        },
     }
 }
 
@@ -58,16 +36,21 @@ pub extern "C" fn cofferdrift_read(
     visible: &mut usize,
     place: &mut usize,
 ) -> usize
-    ensures { λ r. ⌜ r ≡ countedAnswer (readOutcome (now (s .entry))) ⌝ }
-    ensures { λ _. ⌜ now (hidden .exit) ≡ hiddenAfter (readOutcome (now (s .entry))) (now (hidden .entry)) ⌝ }
-    ensures { λ _. ⌜ now (selected .exit) ≡ selectedAfter (readOutcome (now (s .entry))) (now (selected .entry)) ⌝ }
-    ensures { λ _. ⌜ now (visible .exit) ≡ visibleAfter (readOutcome (now (s .entry))) (now (visible .entry)) ⌝ }
-    ensures { λ _. ⌜ now (place .exit) ≡ countedPlace (readOutcome (now (s .entry))) (now (place .entry)) ⌝ }
+    ensures { λ r. ⌜ counts r (now (hidden .exit)) (now (selected .exit)) (now (visible .exit)) (now (place .exit)) ≡ countsTold (readOutcome (now (s .entry))) (counts 0 (now (hidden .entry)) (now (selected .entry)) (now (visible .entry)) (now (place .entry))) ⌝ }
 {
-    let c = sequent::read(s);
-    *hidden = hidden_after(c, *hidden);
-    *selected = selected_after(c, *selected);
-    *visible = visible_after(c, *visible);
-    *place = place_after(c, *place);
-    answer(c)
+    let t = tell(
+        sequent::read(s),
+        Tally {
+            answer: 0,
+            hidden: *hidden,
+            selected: *selected,
+            visible: *visible,
+            place: *place,
+        },
+    );
+    *hidden = t.hidden;
+    *selected = t.selected;
+    *visible = t.visible;
+    *place = t.place;
+    t.answer
 }

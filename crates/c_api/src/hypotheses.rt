@@ -3,17 +3,9 @@ ghost use mathlib.Core.Path.{_≡_};
 ghost use lib.ListN.{length};
 ghost use Rattle.acts.specs.Acts as Acts;
 ghost use Rattle.acts.specs.Outcomes.{flagOutcome, modifyOutcome, forwardOutcome, rewriteOutcome};
-ghost use Rattle.c_api.specs.Sequent.{doneAnswer, bit, changedAfter, lengthAfter, donePlace, Tells};
-use sequent::Done;
-
-fn answer(d: Done) -> usize
-    ensures { λ r. ⌜ r ≡ doneAnswer d ⌝ }
-{
-    match d {
-        Done::Changed(_, _) => 0,
-        Done::Refused(z) => z.number,
-    }
-}
+ghost use Rattle.c_api.specs.Sequent.{bit, act, actTold, Tells};
+use super::Act;
+use buffers::Done;
 
 fn bit_of(b: bool) -> usize
     ensures { λ r. ⌜ r ≡ bit b ⌝ }
@@ -21,44 +13,43 @@ fn bit_of(b: bool) -> usize
     if b { 1 } else { 0 }
 }
 
-fn changed_after(d: Done, old: usize) -> usize
-    ensures { λ r. ⌜ r ≡ changedAfter d old ⌝ }
-{
-    match d {
-        Done::Changed(b, _) => bit_of(b),
-        Done::Refused(_) => old,
-    }
-}
-
-fn length_after(d: Done, old: usize) -> usize
-    ensures { λ r. ⌜ r ≡ lengthAfter d old ⌝ }
-{
-    match d {
-        Done::Changed(_, n) => n,
-        Done::Refused(_) => old,
-    }
-}
-
-fn place_after(d: Done, old: usize) -> usize
-    ensures { λ r. ⌜ r ≡ donePlace d old ⌝ }
-{
-    match d {
-        Done::Changed(_, _) => old,
-        Done::Refused(z) => z.place,
-    }
-}
-
 // What is told of an act done; what does not apply keeps its value.
-fn tell(d: Done, changed: &mut usize, size: &mut usize, place: &mut usize) -> usize
-    ensures { λ r. ⌜ r ≡ doneAnswer d ⌝ }
-    ensures { λ _. ⌜ now (changed .exit) ≡ changedAfter d (now (changed .entry)) ⌝ }
-    ensures { λ _. ⌜ now (size .exit) ≡ lengthAfter d (now (size .entry)) ⌝ }
-    ensures { λ _. ⌜ now (place .exit) ≡ donePlace d (now (place .entry)) ⌝ }
+fn told_of(d: Done, old: Act) -> Act
+    ensures { λ r. ⌜ r ≡ actTold d old ⌝ }
 {
-    *changed = changed_after(d, *changed);
-    *size = length_after(d, *size);
-    *place = place_after(d, *place);
-    answer(d)
+    match d {
+        Done::Changed(b, n) => Act {
+            answer: 0,
+            changed: bit_of(b),
+            size: n,
+            place: old.place,
+        },
+        Done::Refused(z) => Act {
+            answer: z.number,
+            changed: old.changed,
+            size: old.size,
+            place: z.place,
+        },
+    }
+}
+
+// The same, told.
+fn tell(d: Done, changed: &mut usize, size: &mut usize, place: &mut usize) -> usize
+    ensures { λ r. ⌜ act r (now (changed .exit)) (now (size .exit)) (now (place .exit)) ≡ actTold d (act 0 (now (changed .entry)) (now (size .entry)) (now (place .entry))) ⌝ }
+{
+    let t = told_of(
+        d,
+        Act {
+            answer: 0,
+            changed: *changed,
+            size: *size,
+            place: *place,
+        },
+    );
+    *changed = t.changed;
+    *size = t.size;
+    *place = t.place;
+    t.answer
 }
 
 // Selects the hypothesis equal to the lent formula.
@@ -71,7 +62,7 @@ pub extern "C" fn cofferdrift_select(
     size: &mut usize,
     place: &mut usize,
 ) -> usize
-    ensures { λ r. ⌜ Tells (flagOutcome Acts.select (now (s .entry)) (now (predicate .entry)) (length (now (out .entry)))) (now (out .entry)) (now (out .exit)) (now (changed .entry)) (now (changed .exit)) (now (size .entry)) (now (size .exit)) (now (place .entry)) (now (place .exit)) r ⌝ }
+    ensures { λ r. ⌜ Tells (flagOutcome Acts.select (now (s .entry)) (now (predicate .entry)) (length (now (out .entry)))) (now (out .entry)) (now (out .exit)) (act 0 (now (changed .entry)) (now (size .entry)) (now (place .entry))) (act r (now (changed .exit)) (now (size .exit)) (now (place .exit))) ⌝ }
 {
     let d = acts::select(s, predicate, out);
     tell(d, changed, size, place)
@@ -87,7 +78,7 @@ pub extern "C" fn cofferdrift_deselect(
     size: &mut usize,
     place: &mut usize,
 ) -> usize
-    ensures { λ r. ⌜ Tells (flagOutcome Acts.deselect (now (s .entry)) (now (predicate .entry)) (length (now (out .entry)))) (now (out .entry)) (now (out .exit)) (now (changed .entry)) (now (changed .exit)) (now (size .entry)) (now (size .exit)) (now (place .entry)) (now (place .exit)) r ⌝ }
+    ensures { λ r. ⌜ Tells (flagOutcome Acts.deselect (now (s .entry)) (now (predicate .entry)) (length (now (out .entry)))) (now (out .entry)) (now (out .exit)) (act 0 (now (changed .entry)) (now (size .entry)) (now (place .entry))) (act r (now (changed .exit)) (now (size .exit)) (now (place .exit))) ⌝ }
 {
     let d = acts::deselect(s, predicate, out);
     tell(d, changed, size, place)
@@ -103,7 +94,7 @@ pub extern "C" fn cofferdrift_hide(
     size: &mut usize,
     place: &mut usize,
 ) -> usize
-    ensures { λ r. ⌜ Tells (flagOutcome Acts.hide (now (s .entry)) (now (predicate .entry)) (length (now (out .entry)))) (now (out .entry)) (now (out .exit)) (now (changed .entry)) (now (changed .exit)) (now (size .entry)) (now (size .exit)) (now (place .entry)) (now (place .exit)) r ⌝ }
+    ensures { λ r. ⌜ Tells (flagOutcome Acts.hide (now (s .entry)) (now (predicate .entry)) (length (now (out .entry)))) (now (out .entry)) (now (out .exit)) (act 0 (now (changed .entry)) (now (size .entry)) (now (place .entry))) (act r (now (changed .exit)) (now (size .exit)) (now (place .exit))) ⌝ }
 {
     let d = acts::hide(s, predicate, out);
     tell(d, changed, size, place)
@@ -119,7 +110,7 @@ pub extern "C" fn cofferdrift_show(
     size: &mut usize,
     place: &mut usize,
 ) -> usize
-    ensures { λ r. ⌜ Tells (flagOutcome Acts.show (now (s .entry)) (now (predicate .entry)) (length (now (out .entry)))) (now (out .entry)) (now (out .exit)) (now (changed .entry)) (now (changed .exit)) (now (size .entry)) (now (size .exit)) (now (place .entry)) (now (place .exit)) r ⌝ }
+    ensures { λ r. ⌜ Tells (flagOutcome Acts.show (now (s .entry)) (now (predicate .entry)) (length (now (out .entry)))) (now (out .entry)) (now (out .exit)) (act 0 (now (changed .entry)) (now (size .entry)) (now (place .entry))) (act r (now (changed .exit)) (now (size .exit)) (now (place .exit))) ⌝ }
 {
     let d = acts::show(s, predicate, out);
     tell(d, changed, size, place)
@@ -137,7 +128,7 @@ pub extern "C" fn cofferdrift_modify(
     size: &mut usize,
     place: &mut usize,
 ) -> usize
-    ensures { λ r. ⌜ Tells (modifyOutcome (now (s .entry)) (now (added .entry)) (now (unselected .entry)) (now (goal .entry)) (length (now (out .entry)))) (now (out .entry)) (now (out .exit)) (now (changed .entry)) (now (changed .exit)) (now (size .entry)) (now (size .exit)) (now (place .entry)) (now (place .exit)) r ⌝ }
+    ensures { λ r. ⌜ Tells (modifyOutcome (now (s .entry)) (now (added .entry)) (now (unselected .entry)) (now (goal .entry)) (length (now (out .entry)))) (now (out .entry)) (now (out .exit)) (act 0 (now (changed .entry)) (now (size .entry)) (now (place .entry))) (act r (now (changed .exit)) (now (size .exit)) (now (place .exit))) ⌝ }
 {
     let d = acts::modify(s, added, unselected, goal, out);
     tell(d, changed, size, place)
@@ -154,7 +145,7 @@ pub extern "C" fn cofferdrift_forward(
     size: &mut usize,
     place: &mut usize,
 ) -> usize
-    ensures { λ r. ⌜ Tells (forwardOutcome (now (s .entry)) (now (sources .entry)) (now (inferred .entry)) (length (now (out .entry)))) (now (out .entry)) (now (out .exit)) (now (changed .entry)) (now (changed .exit)) (now (size .entry)) (now (size .exit)) (now (place .entry)) (now (place .exit)) r ⌝ }
+    ensures { λ r. ⌜ Tells (forwardOutcome (now (s .entry)) (now (sources .entry)) (now (inferred .entry)) (length (now (out .entry)))) (now (out .entry)) (now (out .exit)) (act 0 (now (changed .entry)) (now (size .entry)) (now (place .entry))) (act r (now (changed .exit)) (now (size .exit)) (now (place .exit))) ⌝ }
 {
     let d = acts::forward(s, sources, inferred, out);
     tell(d, changed, size, place)
@@ -172,7 +163,7 @@ pub extern "C" fn cofferdrift_rewrite(
     size: &mut usize,
     place: &mut usize,
 ) -> usize
-    ensures { λ r. ⌜ Tells (rewriteOutcome (now (s .entry)) (now (sources .entry)) (now (inferred .entry)) (now (hides .entry)) (length (now (out .entry)))) (now (out .entry)) (now (out .exit)) (now (changed .entry)) (now (changed .exit)) (now (size .entry)) (now (size .exit)) (now (place .entry)) (now (place .exit)) r ⌝ }
+    ensures { λ r. ⌜ Tells (rewriteOutcome (now (s .entry)) (now (sources .entry)) (now (inferred .entry)) (now (hides .entry)) (length (now (out .entry)))) (now (out .entry)) (now (out .exit)) (act 0 (now (changed .entry)) (now (size .entry)) (now (place .entry))) (act r (now (changed .exit)) (now (size .exit)) (now (place .exit))) ⌝ }
 {
     let d = acts::rewrite(s, sources, inferred, hides, out);
     tell(d, changed, size, place)

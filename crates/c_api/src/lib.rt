@@ -3,11 +3,29 @@ mod hypotheses;
 
 // The interface for C: numbers and byte slices alone. A slice is passed as a pointer and a length.
 ghost use mathlib.Core.Path.{_≡_};
-ghost use Rattle.c_api.specs.Formula.{sortAsked, readHere, answerOf, placeAfter};
+ghost use Rattle.c_api.specs.Formula.{sortAsked, readHere, said, told};
 use formula::Outcome;
 use formula::Sort;
-use formula::outcome_of;
-use formula::reader::read_formula;
+use reader::outcome_of;
+use reader::reader::read_formula;
+use refusal::Said;
+
+// What reading a sequent answers, and what it leaves in the variables lent with it.
+pub struct Tally {
+    pub answer: usize,
+    pub hidden: usize,
+    pub selected: usize,
+    pub visible: usize,
+    pub place: usize,
+}
+
+// The same of an act.
+pub struct Act {
+    pub answer: usize,
+    pub changed: usize,
+    pub size: usize,
+    pub place: usize,
+}
 
 // The sort that a number of C asks for.
 fn sort_asked(expression: usize) -> Sort
@@ -20,23 +38,16 @@ fn sort_asked(expression: usize) -> Sort
     }
 }
 
-// 0 for a formula read, else the number of the refusal.
-fn answer_of(o: Outcome) -> usize
-    ensures { λ r. ⌜ r ≡ answerOf o ⌝ }
+// 0 and the end of a formula read, else the number of the refusal and its place.
+fn told_of(o: Outcome) -> Said
+    ensures { λ r. ⌜ r ≡ told o ⌝ }
 {
     match o {
-        Outcome::Read(_) => 0,
-        Outcome::Refused(x) => x.number,
-    }
-}
-
-// The end of a formula read, else the place of the refusal.
-fn place_after(o: Outcome) -> usize
-    ensures { λ r. ⌜ r ≡ placeAfter o ⌝ }
-{
-    match o {
-        Outcome::Read(end) => end,
-        Outcome::Refused(x) => x.place,
+        Outcome::Read(end) => Said {
+            number: 0,
+            place: end,
+        },
+        Outcome::Refused(x) => x,
     }
 }
 
@@ -50,11 +61,10 @@ pub extern "C" fn cofferdrift_read_formula(
     start: usize,
     place: &mut usize,
 ) -> usize
-    ensures { λ r. ⌜ r ≡ answerOf (readHere (now (s .entry)) (now (types .entry)) expression start) ⌝ }
-    ensures { λ _. ⌜ now (place .exit) ≡ placeAfter (readHere (now (s .entry)) (now (types .entry)) expression start) ⌝ }
+    ensures { λ r. ⌜ said r (now (place .exit)) ≡ told (readHere (now (s .entry)) (now (types .entry)) expression start) ⌝ }
 {
     let r = read_formula(s, types, sort_asked(expression), start);
-    let o = outcome_of(s.len(), r);
-    *place = place_after(o);
-    answer_of(o)
+    let t = told_of(outcome_of(s.len(), r));
+    *place = t.place;
+    t.number
 }

@@ -1,12 +1,7 @@
 use borrow.Author.Needs.{needs}
-use Rattle.c_api.specs.Formula.{readHere}
 use Rattle.c_api.proofs.cofferdrift_read_formula.Statement.{statement}
 use Rattle.c_api.proofs.cofferdrift_read_formula.Tie as tie
-
-returns : tie.Need-returns
-unfolding readHere
-returns c = (cc, cc)
+use Rattle.c_api.proofs.Told.{tells}
 
 pub cofferdrift-read-formula-spec : {M : Type 1} → statement M
-cofferdrift-read-formula-spec =
-    tie.close (tie.spec (λ c κs. search needs) (λ c κs. search needs) (λ c κs. search needs) (λ c κs. search needs) (λ c κs. search needs) returns)
+cofferdrift-read-formula-spec = tie.close (tie.spec (λ c κs. search needs) (λ c κs. search needs) (λ c κs. search needs) (λ c κs. search needs) (λ c. search (needs, tells) depth 7))
