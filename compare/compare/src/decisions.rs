@@ -1,5 +1,8 @@
 //! Tests that the examples of docs/DECISIONS.md are those of decisions.lines, and that they are answered so.
 
+use std::collections::BTreeSet;
+
+use crate::exports::NOT_YET;
 use crate::lines::{Mode, work};
 use crate::programs::Program;
 
@@ -66,9 +69,10 @@ fn bytes_on_the_page_are_found() {
 
 #[test]
 fn each_line_is_answered_so() {
-    for (by, mode) in [(Program::Paper, Mode::Check), (Program::Ours, Mode::CheckOrAbsent)] {
+    for by in [Program::Paper, Program::Ours].into_iter().filter(|by| by.missing().is_none()) {
         let mut out = Vec::new();
-        let mismatches = work(by, mode, LINES.as_bytes(), &mut out).expect("memory can be written");
-        assert_eq!(mismatches, 0, "{}: {}", by.name(), String::from_utf8_lossy(&out));
+        let absent = if by == Program::Ours { NOT_YET.map(str::to_string).into() } else { BTreeSet::new() };
+        let good = work(by, Mode::Check(&absent), LINES.as_bytes(), &mut out);
+        assert!(good.expect("memory can be written"), "{}: {}", by.name(), String::from_utf8_lossy(&out));
     }
 }

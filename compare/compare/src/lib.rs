@@ -1,11 +1,13 @@
 //! Compares the proved library with the program written from document 01 and with the given Rust.
 
+pub mod absent;
 pub mod bench;
 #[cfg(test)]
 mod decisions;
 pub mod drift;
 pub mod edges;
 pub mod explain;
+pub mod exports;
 pub mod laws;
 pub mod lent;
 pub mod lines;
@@ -21,3 +23,4 @@ pub mod run;
 pub mod sample;
 pub mod show;
 pub mod shrink;
+pub mod workers;

@@ -3,30 +3,34 @@
 use std::path::PathBuf;
 use std::process::ExitCode;
 
+use compare::absent::Without;
 use compare::lines::Mode;
 use compare::programs::Program;
 
 const USAGE: &str = "\
-compare lines [--by ours|paper|given|given-cut] [--check [--or-absent]]
+compare lines [--by ours|paper|given|given-cut] [--check [--absent ACTS]]
         answers requests from standard input, one to a line: ACT BUFFER.. ROOM..
         (--by ours if not said); empty lines and lines that begin with # are skipped;
-        --check holds each answer to what follows -> on its line, and --or-absent lets a program pass
-        that lacks the act, and says how often
-compare run [--seed N] [--count N] [--wide]
+        --check holds each answer to what follows -> on its line; a line that begins with ! has to be
+        found wrong
+compare run [--seed N] [--count N] [--wide] [--without PROGRAMS] [--absent ACTS]
         holds all programs against each other: edges, every source against every key (of more literals
         if wide), and N random requests
-compare sample [--seed N]
-        prints some 4,500 requests of all acts with the oracle's answers, some of every kind, in the
-        format of lines; how many of which kind goes to standard error
-compare laws [--seed N] [--count N]
+compare sample [--seed N] [--without given]
+        prints some 4,500 requests of all acts with the oracle's answers, some of every kind, and some
+        wrong lines marked with !, in the format of lines; how many of which kind goes to standard error
+compare laws [--seed N] [--count N] [--without PROGRAMS] [--absent ACTS]
         tries the laws of genMP and one-point on small valuations
 compare archive DIR [--seed N] [--count N]
         writes a folder of sequents that stands in for an archive
-compare drift DIR [--all] [--csv FILE] [--html FILE]
-        replays each *.sqt of a folder and the folders in it (genmp, read, and the acts in FILE.acts)
-        and lists where the proved library (or paper, where it is absent) and the given Rust part
+compare drift DIR [--by ours|paper] [--all] [--csv FILE] [--html FILE] [--absent ACTS]
+        replays each *.sqt of a folder and the folders in it (genmp, read, and the acts in NAME.acts)
+        and lists where the proved library, or the program named, and the given Rust part
 compare bench
-        times genmp and read by each program";
+        times genmp and read by each program
+
+PROGRAMS (ours, given) are those that are not there, and ACTS those that the program which is asked
+lacks, with commas. What is missing and not named is a failure, and so is what is named and there.";
 
 /// What was asked on the command line: `--name value` pairs, `--name` alone, and other words.
 struct Asked {
@@ -57,6 +61,20 @@ impl Asked {
         let count = self.words.len();
         self.words.retain(|word| word != name);
         self.words.len() < count
+    }
+
+    /// A number of requests: none at all would show nothing.
+    fn count(&mut self, otherwise: u64) -> Result<usize, String> {
+        match self.number("--count", otherwise)? {
+            0 => Err("--count needs a number over 0".to_string()),
+            count => Ok(count as usize),
+        }
+    }
+
+    /// What may be missing.
+    fn without(&mut self) -> Result<Without, String> {
+        let (programs, acts) = (self.value("--without")?, self.value("--absent")?);
+        Without::parse(programs.as_deref(), acts.as_deref())
     }
 
     /// Takes the first word that is no `--name`.
@@ -116,41 +134,44 @@ fn answering(asked: &mut Asked) -> Result<Program, String> {
 
 fn lines(mut asked: Asked) -> Result<bool, String> {
     let by = answering(&mut asked)?;
-    let mode = match (asked.flag("--check"), asked.flag("--or-absent")) {
-        (false, false) => Mode::Answer,
-        (true, false) => Mode::Check,
-        (true, true) => Mode::CheckOrAbsent,
-        (false, true) => return Err("--or-absent goes with --check".to_string()),
-    };
+    let (is_check, absent) = (asked.flag("--check"), asked.value("--absent")?);
     asked.end()?;
+    if absent.is_some() && !is_check {
+        return Err("--absent goes with --check".to_string());
+    }
+    let acts = Without::parse(None, absent.as_deref())?.acts;
     if let Some(why) = by.missing() {
         eprintln!("compare: {why}");
     }
+    let mode = if is_check { Mode::Check(&acts) } else { Mode::Answer };
     let (input, out) = (std::io::stdin().lock(), std::io::stdout().lock());
-    compare::lines::work(by, mode, input, out)
-        .map(|mismatches| mismatches == 0)
-        .map_err(|why| why.to_string())
+    let good = compare::lines::work(by, mode, input, out).map_err(|why| why.to_string())?;
+    Ok(good && by.missing().is_none())
 }
 
 fn run(mut asked: Asked) -> Result<bool, String> {
-    let (seed, count) = (asked.number("--seed", 1)?, asked.number("--count", 20_000)?);
-    let wide = asked.flag("--wide");
+    let (seed, count) = (asked.number("--seed", 1)?, asked.count(20_000)?);
+    let (wide, without) = (asked.flag("--wide"), asked.without()?);
     asked.end()?;
-    let (report, good) = compare::run::report(&compare::run::run(seed, count as usize, wide));
+    let (report, good) = compare::run::report(&compare::run::run(seed, count, wide), &without);
     print!("{report}");
     Ok(good)
 }
 
 fn sample(mut asked: Asked) -> Result<bool, String> {
     let seed = asked.number("--seed", compare::sample::SEED)?;
+    let without = Without::parse(asked.value("--without")?.as_deref(), None)?;
     asked.end()?;
-    if let Some(why) = Program::GivenCut.missing() {
+    if let Some(why) = without.fault_of(Program::Given) {
         eprintln!("compare: {why}");
+        return Ok(false);
     }
     match compare::sample::sample(seed) {
         Ok(lines) => {
-            let text: Vec<String> = lines.iter().map(|line| line.text() + "\n").collect();
-            print!("{}", text.concat());
+            let right: Vec<String> = lines.iter().map(|line| line.text() + "\n").collect();
+            let planted = compare::sample::planted::lines(&lines);
+            let wrong: Vec<String> = planted.iter().map(|planted| format!("!{}\n", planted.text)).collect();
+            print!("{}{}", right.concat(), wrong.concat());
             eprint!("{}", compare::sample::table(&lines));
             Ok(true)
         }
@@ -162,9 +183,9 @@ fn sample(mut asked: Asked) -> Result<bool, String> {
 }
 
 fn laws(mut asked: Asked) -> Result<bool, String> {
-    let (seed, count) = (asked.number("--seed", 1)?, asked.number("--count", 2_000)?);
+    let (seed, count, without) = (asked.number("--seed", 1)?, asked.count(2_000)?, asked.without()?);
     asked.end()?;
-    let (report, good) = compare::laws::report(&compare::laws::run(seed, count as usize));
+    let (report, good) = compare::laws::report(&compare::laws::run(seed, count), &without);
     print!("{report}");
     Ok(good)
 }
@@ -180,15 +201,17 @@ fn archive(mut asked: Asked) -> Result<bool, String> {
 
 fn drift(mut asked: Asked) -> Result<bool, String> {
     let (csv, html) = (asked.value("--csv")?, asked.value("--html")?);
-    let all = asked.flag("--all");
+    let (by, all) = (answering(&mut asked)?, asked.flag("--all"));
+    let acts = Without::parse(None, asked.value("--absent")?.as_deref())?.acts;
     let folder = asked.folder()?;
     asked.end()?;
-    for program in [Program::Ours, Program::Given] {
+    for program in [by, Program::Given] {
         if let Some(why) = program.missing() {
             eprintln!("compare: {why}");
         }
     }
-    let drift = compare::drift::run(&folder).map_err(|why| format!("{}: {why}", folder.display()))?;
+    let drift =
+        compare::drift::run(&folder, by, &acts).map_err(|why| format!("{}: {why}", folder.display()))?;
     let write = |file: Option<String>, text: &dyn Fn() -> String| match file {
         Some(file) => std::fs::write(&file, text()).map_err(|why| format!("{file}: {why}")),
         None => Ok(()),

@@ -1,6 +1,6 @@
 //! The proved library. A slice passes as a pointer and a length; a function returns 0 or the number of
-//! its refusal, and tells the rest in numbers. build.rs says which functions the library has; an act
-//! without its function is not answered.
+//! its refusal, and tells the rest in numbers. exports.rs says which functions the library has to have;
+//! an act without its function is not answered.
 
 #![cfg_attr(
     not(all(ours_formula, ours_read, ours_genmp, ours_onepoint)),

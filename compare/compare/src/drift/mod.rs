@@ -5,6 +5,7 @@ pub mod csv;
 pub mod html;
 pub mod told;
 
+use std::collections::BTreeSet;
 use std::fs;
 use std::io;
 use std::path::{Path, PathBuf};
@@ -12,6 +13,7 @@ use std::path::{Path, PathBuf};
 use answers::Answer;
 use given::Variant;
 
+use crate::absent::{Answered, told as told_faults};
 use crate::explain::{self, Verdict};
 use crate::listed;
 use crate::programs::Program;
@@ -25,7 +27,7 @@ const MOST_BYTES: u64 = 1 << 24;
 pub struct Obligation {
     pub file: String,
     pub request: Request,
-    /// The first program: ours, or paper where ours is absent.
+    /// The program that is held to the given Rust: ours, if no other is named.
     pub by: Program,
     pub first: Option<Answer>,
     /// What the given Rust gave.
@@ -38,6 +40,8 @@ pub enum Outcome {
     Unexplained,
     /// Why there is nothing to compare.
     NotCompared(String),
+    /// The first program has no such act.
+    Absent,
     /// The entries of docs/DIFFERENCES.md.
     Drift(Vec<String>),
     Same,
@@ -50,6 +54,7 @@ impl Outcome {
             Outcome::Drift(names) => names.join(" "),
             Outcome::Unexplained => "UNEXPLAINED".to_string(),
             Outcome::NotCompared(why) => format!("not compared: {why}"),
+            Outcome::Absent => "absent: the act is not there".to_string(),
         }
     }
 }
@@ -64,22 +69,28 @@ pub struct Unread {
 pub struct Drift {
     pub obligations: Vec<Obligation>,
     pub unread: Vec<Unread>,
+    /// What was absent and not named, or named and there.
+    pub faults: Vec<String>,
 }
 
-/// Replays every *.sqt of a folder and of the folders in it.
-pub fn run(folder: &Path) -> io::Result<Drift> {
+/// Replays every *.sqt of a folder and of the folders in it by one program, which may lack these acts.
+pub fn run(folder: &Path, by: Program, absent: &BTreeSet<String>) -> io::Result<Drift> {
     let mut files: Vec<PathBuf> = Vec::new();
     collect(folder, &mut files)?;
     if files.is_empty() {
         return Err(io::Error::new(io::ErrorKind::NotFound, "no sequent file (*.sqt) in this folder"));
     }
     files.sort();
-    let mut drift = Drift::default();
+    let (mut drift, mut answered) = (Drift::default(), Answered::default());
     let mut progress = Progress::new("files");
     for (index, path) in files.iter().enumerate() {
-        replay(folder, path, &mut drift);
+        replay(folder, path, by, &mut drift);
         progress.show(index, files.len());
     }
+    for obligation in &drift.obligations {
+        answered.note(&obligation.request.act, obligation.first.is_some());
+    }
+    drift.faults = answered.faults(absent);
     Ok(drift)
 }
 
@@ -107,7 +118,7 @@ fn bytes_of(path: &Path) -> io::Result<Vec<u8>> {
 }
 
 /// read and genMP on one file, and the acts listed beside it; what cannot be read is noted.
-fn replay(folder: &Path, path: &Path, drift: &mut Drift) {
+fn replay(folder: &Path, path: &Path, by: Program, drift: &mut Drift) {
     let name = |path: &Path| path.strip_prefix(folder).unwrap_or(path).to_string_lossy().into_owned();
     let mut unread = |path: &Path, why: String| drift.unread.push(Unread { file: name(path), why });
     let sequent = match bytes_of(path) {
@@ -130,7 +141,7 @@ fn replay(folder: &Path, path: &Path, drift: &mut Drift) {
         Err(why) => unread(&acts, why.to_string()),
     }
     let file = name(path);
-    drift.obligations.extend(requests.into_iter().map(|request| obligation(&file, request)));
+    drift.obligations.extend(requests.into_iter().map(|request| obligation(&file, by, request)));
 }
 
 /// A line of an `.acts` file: a request without its sequent. One that is whole, such as one-point's,
@@ -147,17 +158,17 @@ fn act_on(sequent: &[u8], line: &str) -> Option<Request> {
 }
 
 /// Rooms are ample, because the given Rust has none.
-fn obligation(file: &str, request: Request) -> Obligation {
+fn obligation(file: &str, by: Program, request: Request) -> Obligation {
     let request = request.with_rooms(vec![AMPLE; request.rooms.len()]);
-    let ours = Program::Ours.answer(&request);
-    let by = if ours.is_some() { Program::Ours } else { Program::Paper };
-    let first = ours.or_else(|| Program::Paper.answer(&request));
-    let second = Program::Given.answer(&request);
+    let (first, second) = (by.answer(&request), Program::Given.answer(&request));
     let outcome = outcome(&request, &first);
     Obligation { file: file.to_string(), request, by, first, second, outcome }
 }
 
 fn outcome(request: &Request, first: &Option<Answer>) -> Outcome {
+    if first.is_none() {
+        return Outcome::Absent;
+    }
     let Some((paper, _, verdict)) = explain::compared(request, Variant::Unchanged) else {
         let missing = Program::Given.missing().map(|_| "the given Rust is not there");
         return Outcome::NotCompared(missing.unwrap_or("the given Rust has no such act").to_string());
@@ -187,6 +198,7 @@ pub struct Counts {
     pub drift: usize,
     pub unexplained: usize,
     pub not_compared: usize,
+    pub absent: usize,
 }
 
 impl Drift {
@@ -200,6 +212,7 @@ impl Drift {
             drift: of(&|outcome| matches!(outcome, Outcome::Drift(_))),
             unexplained: of(&|outcome| *outcome == Outcome::Unexplained),
             not_compared: of(&|outcome| matches!(outcome, Outcome::NotCompared(_))),
+            absent: of(&|outcome| *outcome == Outcome::Absent),
         }
     }
 
@@ -214,21 +227,25 @@ impl Drift {
         for Unread { file, why } in &self.unread {
             out.push_str(&format!("{file}: {why}\n"));
         }
-        out.push_str(&format!("{}\n", self.last_line()));
+        out.push_str(&format!("{}{}\n", told_faults(&self.faults), self.last_line()));
         out
     }
 
     pub fn last_line(&self) -> String {
-        let Counts { all, same, drift, unexplained, not_compared } = self.counts();
+        let Counts { all, same, drift, unexplained, not_compared, absent } = self.counts();
         let unread = self.unread.len();
         let compared = format!("{all} obligations: {same} same, {drift} drift, {unexplained} UNEXPLAINED");
-        format!("{compared}, {not_compared} not compared; {unread} files or lines not readable")
+        let rest = format!("{not_compared} not compared, {absent} absent");
+        format!("{compared}, {rest}; {unread} files or lines not readable")
     }
 
-    /// Whether every obligation was compared and every drift is listed.
+    /// Whether every obligation was compared or may be absent, and every drift is listed.
     pub fn is_good(&self) -> bool {
         let counts = self.counts();
-        counts.unexplained == 0 && counts.not_compared == 0 && self.unread.is_empty()
+        counts.unexplained == 0
+            && counts.not_compared == 0
+            && self.unread.is_empty()
+            && self.faults.is_empty()
     }
 }
 

@@ -21,6 +21,11 @@ impl Drop for Folder {
     }
 }
 
+/// Replayed by a program that has every act.
+fn replayed(folder: &Path) -> io::Result<Drift> {
+    run(folder, Program::Paper, &BTreeSet::new())
+}
+
 const GOAL_TRUE: &[u8] = b"SQT\x01\x00\x00\x00\x00\x01";
 
 #[test]
@@ -28,7 +33,7 @@ fn an_archive_is_replayed() {
     let folder = Folder::new("replayed");
     let written = archive::write(&folder.0, 1, 30).expect("a folder for tests");
     folder.write("obligation-00003.acts", b"select 01 9\n\nsing\n");
-    let drift = run(&folder.0).expect("an archive");
+    let drift = replayed(&folder.0).expect("an archive");
     let files: std::collections::BTreeSet<&str> =
         drift.obligations.iter().map(|obligation| obligation.file.as_str()).collect();
     assert_eq!(files.len(), written);
@@ -54,7 +59,7 @@ fn an_odd_archive_is_replayed_too() {
     folder.write("inner/folder.sqt", GOAL_TRUE);
     folder.write("inner/bytes.sqt", GOAL_TRUE);
     folder.write("inner/bytes.acts", b"\xff\xfe\nselect 01 9\n");
-    let drift = run(&folder.0).expect("an archive");
+    let drift = replayed(&folder.0).expect("an archive");
     let files: Vec<&str> = drift.unread.iter().map(|unread| unread.file.as_str()).collect();
     assert_eq!(files, ["inner/bytes.acts", "inner/folder.acts"]);
     let counts = drift.counts();
@@ -69,8 +74,8 @@ fn an_odd_archive_is_replayed_too() {
 #[test]
 fn a_folder_without_sequents_is_no_archive() {
     let folder = Folder::new("empty");
-    assert!(run(&folder.0).is_err());
-    assert!(run(&folder.0.join("absent")).is_err());
+    assert!(replayed(&folder.0).is_err());
+    assert!(replayed(&folder.0.join("absent")).is_err());
 }
 
 #[test]
@@ -81,6 +86,28 @@ fn an_answer_that_is_not_document_01s_is_unexplained() {
     if given::missing().is_none() {
         assert_eq!(outcome(&request, &wrong), Outcome::Unexplained);
         assert_eq!(outcome(&request, &right), Outcome::Drift(vec!["D-TRUE-FALSE".to_string()]));
+    }
+}
+
+/// Where a program answered nothing, no other stands in for it.
+#[test]
+fn an_act_that_is_absent_is_listed_so() {
+    let request = Request::parse("genmp 535154010000010000103131103131 60000 60000").expect("a request");
+    assert_eq!(outcome(&request, &None), Outcome::Absent);
+    let folder = Folder::new("absent");
+    folder.write("a.sqt", GOAL_TRUE);
+    // The given Rust has no formulas alone, and so stands for a library that lacks an act.
+    folder.write("a.acts", b"formula - 01\n");
+    let by_given = |acts: &[&str]| {
+        let drift = run(&folder.0, Program::Given, &acts.iter().map(|act| act.to_string()).collect());
+        drift.expect("an archive")
+    };
+    let drift = by_given(&[]);
+    assert!(!drift.is_good() && drift.counts().absent >= 1);
+    assert!(drift.text(false).contains("a.sqt formula: absent"));
+    if given::missing().is_none() {
+        assert!(by_given(&["formula"]).is_good());
+        assert!(!by_given(&["formula", "read"]).is_good());
     }
 }
 

@@ -120,6 +120,17 @@ fn unlimited(request: &Request) -> Option<Answer> {
 pub fn compared(request: &Request, variant: given::Variant) -> Option<(Answer, Option<Answer>, Verdict)> {
     let request = request.with_rooms(vec![AMPLE; request.rooms.len()]);
     let paper = paper::run(&request.act, &request.lent(), &request.rooms)?;
+    let (given, verdict) = beside(&request, &paper, variant)?;
+    Some((paper, given, verdict))
+}
+
+/// The given Rust's answer beside document 01's to a request with ample rooms, and the verdict; none
+/// where the given Rust is missing or has no such act.
+pub fn beside(
+    request: &Request,
+    paper: &Answer,
+    variant: given::Variant,
+) -> Option<(Option<Answer>, Verdict)> {
     if given::missing().is_some() || matches!(request.act.as_str(), "formula" | "expression") {
         return None;
     }
@@ -128,8 +139,8 @@ pub fn compared(request: &Request, variant: given::Variant) -> Option<(Answer, O
         given::Variant::Unchanged => Switches::ALL,
         given::Variant::Cut => Switches::NONE,
     };
-    let verdict = verdict(&request, &paper, &given, on);
-    Some((paper, given, verdict))
+    let verdict = verdict(request, paper, &given, on);
+    Some((given, verdict))
 }
 
 #[cfg(test)]

@@ -10,6 +10,7 @@ use paper::meaning::{Valuation, Value, choices, holds, refutes, value};
 use paper::tree::Tree;
 use paper::{codes, file, lent};
 
+use crate::absent::{Without, told};
 use crate::explain::{Verdict, compared};
 use crate::listed;
 use crate::loose;
@@ -21,6 +22,7 @@ use crate::request::Request;
 use crate::run::bodies;
 use crate::run::exhaustive::{self, Case};
 use crate::shrink::{measure, shrink};
+use crate::workers::shared;
 
 /// How often a law of one program is shrunk anew.
 const SHRINKS: usize = 6;
@@ -58,29 +60,62 @@ pub struct Kept {
 pub struct Laws(pub BTreeMap<(&'static str, &'static str), Kept>);
 
 const PROGRAMS: [Program; 3] = [Program::Ours, Program::Paper, Program::Given];
+/// Each act that has a law, and its law.
+const LAWS: [(&str, &str); 2] =
+    [("genmp", "genMP keeps refuting valuations"), ("onepoint", "one-point keeps truth")];
 
+/// Tries every source against its keys, every small body, and random requests.
 pub fn run(seed: u64, count: usize) -> Laws {
+    let (cases, bodies) = (exhaustive::cases(false), bodies::requests());
     let mut laws = Laws::default();
-    let cases = exhaustive::cases(false);
-    let mut progress = Progress::new("every source");
-    for (index, case) in cases.iter().enumerate() {
-        laws.examine_keys(case, seed);
-        progress.show(index, cases.len());
-    }
-    drop(progress);
+    let found = shared(|worker, workers| share((&cases, &bodies), seed, count, (worker, workers)));
+    found.into_iter().for_each(|found| laws.merge(found));
+    laws
+}
+
+/// One worker's share; a random request depends on its number alone, and not on the worker.
+fn share(
+    (cases, bodies): (&[Case], &[Request]),
+    seed: u64,
+    count: usize,
+    (worker, workers): (usize, usize),
+) -> Laws {
+    let mut laws = Laws::default();
     let mut progress = Progress::new("laws");
-    bodies::requests().iter().for_each(|request| laws.examine(request, seed));
-    let mut dice = Dice::new(seed);
-    for index in 0..count {
+    let mut step = |done: usize| {
+        if worker == 0 {
+            progress.show(done, cases.len() + count);
+        }
+    };
+    for (index, case) in cases.iter().enumerate().skip(worker).step_by(workers) {
+        laws.examine_keys(case, seed);
+        step(index);
+    }
+    bodies.iter().skip(worker).step_by(workers).for_each(|request| laws.examine(request, seed));
+    for number in (worker..count).step_by(workers) {
+        let mut dice = Dice::new(seed).branch(number);
         let request =
             if dice.once_in(3) { requests::genmp(&mut dice) } else { requests::one_point(&mut dice) };
         laws.examine(&request, dice.next());
-        progress.show(index, count);
+        step(cases.len() + number);
     }
     laws
 }
 
 impl Laws {
+    /// Takes in what another worker found.
+    fn merge(&mut self, other: Laws) {
+        for (key, found) in other.0 {
+            let kept = self.0.entry(key).or_default();
+            kept.tried += found.tried;
+            kept.untried += found.untried;
+            kept.broken = match (kept.broken.take(), found.broken) {
+                (Some(one), Some(two)) => Some(one.with(two)),
+                (one, two) => one.or(two),
+            };
+        }
+    }
+
     /// Each key alone, because a wrong value hides among targets that are false beside it.
     fn examine_keys(&mut self, case: &Case, seed: u64) {
         let request = case.request();
@@ -94,19 +129,27 @@ impl Laws {
     }
 
     fn examine(&mut self, request: &Request, seed: u64) {
-        let law =
-            if request.act == "genmp" { "genMP keeps refuting valuations" } else { "one-point keeps truth" };
+        let law = LAWS[usize::from(request.act != "genmp")].1;
         for program in PROGRAMS {
-            let Some(Ok(_)) = program.answer(request) else {
+            let Some(answer @ Ok(_)) = program.answer(request) else {
                 continue;
             };
             let kept = self.0.entry((law, program.name())).or_default();
-            let judged = judged(program, request, seed);
+            let judged = judged_so(request, &answer, seed);
             *(if judged == Judged::Untried { &mut kept.untried } else { &mut kept.tried }) += 1;
             if judged == Judged::Broken {
                 kept.note(program, request, seed);
             }
         }
+    }
+}
+
+impl Broken {
+    /// Both counts, and the smaller input.
+    fn with(self, other: Broken) -> Broken {
+        let count = self.count + other.count;
+        let smaller = if measure(&other.smallest) < measure(&self.smallest) { other } else { self };
+        Broken { count, ..smaller }
     }
 }
 
@@ -135,12 +178,13 @@ fn classes(program: Program, request: &Request) -> String {
 
 /// Whether some small valuation shows that the program's answer breaks its law.
 pub fn judged(program: Program, request: &Request, seed: u64) -> Judged {
-    let Some(answer) = program.answer(request) else {
-        return Judged::Untried;
-    };
+    program.answer(request).map_or(Judged::Untried, |answer| judged_so(request, &answer, seed))
+}
+
+fn judged_so(request: &Request, answer: &Answer, seed: u64) -> Judged {
     let judged = match request.act.as_str() {
-        "genmp" => refutations_kept(request, &answer, seed),
-        _ => truth_kept(request, &answer, seed),
+        "genmp" => refutations_kept(request, answer, seed),
+        _ => truth_kept(request, answer, seed),
     };
     judged.unwrap_or(Judged::Untried)
 }
@@ -206,8 +250,23 @@ fn premise(valuation: &Valuation, variables: usize, replacement: &Tree) -> bool 
     })
 }
 
-/// The summary, and whether only listed classes of the given Rust break a law.
-pub fn report(laws: &Laws) -> (String, bool) {
+/// Each law has to be tried on each program, but for what is named as missing; that must not be there.
+fn absences(laws: &Laws, without: &Without) -> Vec<String> {
+    let mut out = without.faults();
+    for (act, law) in LAWS {
+        for program in PROGRAMS {
+            let tried = laws.0.get(&(law, program.name())).is_some_and(|kept| kept.tried > 0);
+            if tried == without.names(program, act) {
+                let so = if tried { "tried, and named as absent" } else { "never tried" };
+                out.push(format!("{law}: {} is {so}", program.name()));
+            }
+        }
+    }
+    out
+}
+
+/// The summary, and whether only listed classes of the given Rust break a law, and none was left out.
+pub fn report(laws: &Laws, without: &Without) -> (String, bool) {
     let mut out = format!("{:<34}{:<8}{:>8}{:>10}{:>8}\n", "law", "program", "tried", "not tried", "broken");
     let mut good = true;
     for ((law, program), Kept { tried, untried, broken }) in &laws.0 {
@@ -219,9 +278,11 @@ pub fn report(laws: &Laws) -> (String, bool) {
         let mark = if listed { "" } else { " NOT LISTED" };
         out.push_str(&format!("    {classes}{mark}: {}\n", smallest.line()));
     }
+    let absences = absences(laws, without);
+    out.push_str(&told(&absences));
     let verdict = if good { "no law is broken but by listed classes" } else { "a law is broken" };
     out.push_str(&format!("{verdict}\n"));
-    (out, good)
+    (out, good && absences.is_empty())
 }
 
 #[cfg(test)]
@@ -256,6 +317,26 @@ mod tests {
         // ∃x·x=9 gives ⊤, and 9 is in no interval that is tried.
         let request = Request::parse("onepoint - 0901102100220900000000000000 100 100").expect("a request");
         assert_eq!(judged(Program::Paper, &request, 1), Judged::Untried);
+    }
+
+    #[test]
+    fn a_law_that_was_never_tried_is_no_success() {
+        let missing: Vec<&str> = [Program::Ours, Program::Given]
+            .into_iter()
+            .filter(|program| program.missing().is_some())
+            .map(Program::name)
+            .collect();
+        let without = Without::parse(Some(&missing.join(",")), None).expect("programs");
+        let mut laws = Laws::default();
+        assert!(!report(&laws, &without).1);
+        for (act, law) in LAWS {
+            for program in PROGRAMS.into_iter().filter(|program| !without.names(*program, act)) {
+                laws.0.insert((law, program.name()), Kept { tried: 1, ..Kept::default() });
+            }
+        }
+        assert!(report(&laws, &without).1);
+        laws.0.insert((LAWS[0].1, "paper"), Kept { untried: 1, ..Kept::default() });
+        assert!(!report(&laws, &without).1);
     }
 
     /// Every source meets some of its keys alone, under some valuation.

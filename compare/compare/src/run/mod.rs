@@ -6,6 +6,7 @@ pub mod tally;
 
 use std::panic::{AssertUnwindSafe, catch_unwind};
 
+use crate::absent::{Without, told};
 use crate::edges;
 use crate::listed;
 use crate::make::dice::Dice;
@@ -13,6 +14,8 @@ use crate::make::requests;
 use crate::programs::Program;
 use crate::progress::Progress;
 use crate::request::Request;
+use crate::sample::kinds::ACTS;
+use crate::workers::shared;
 use tally::Tally;
 
 /// All that is examined besides random requests.
@@ -25,18 +28,9 @@ struct Fixed {
 pub fn run(seed: u64, count: usize, wide: bool) -> Tally {
     let requests = [of_page(), edges::all(), bodies::requests()].concat();
     let fixed = Fixed { requests, cases: exhaustive::cases(wide) };
-    let workers = std::thread::available_parallelism().map_or(1, |many| many.get().min(4));
     let mut tally = Tally::default();
-    std::thread::scope(|scope| {
-        let start = |worker: usize| {
-            let fixed = &fixed;
-            scope.spawn(move || share(fixed, seed, count, worker, workers))
-        };
-        let started: Vec<_> = (0..workers).map(start).collect();
-        for worker in started {
-            tally.merge(worker.join().expect("a worker does not fail"));
-        }
-    });
+    let found = shared(|worker, workers| share(&fixed, seed, count, worker, workers));
+    found.into_iter().for_each(|found| tally.merge(found));
     tally
 }
 
@@ -81,16 +75,23 @@ fn caught(tally: &mut Tally, request: &Request, examine: impl FnOnce(&mut Tally)
     }
 }
 
-/// The summary, and whether nothing is unexplained.
-pub fn report(tally: &Tally) -> (String, bool) {
-    let mut out = String::new();
-    for program in Program::ALL {
-        if let Some(why) = program.missing() {
-            out.push_str(&format!("{} is left out: {why}\n", program.name()));
-        }
+/// What was not there, or not asked, and should have been.
+fn absences(tally: &Tally, without: &Without) -> Vec<String> {
+    let mut out = without.faults();
+    out.extend(tally.ours.unasked(&[&ACTS[..], &["formula", "expression"]].concat()));
+    if !without.programs.contains(&Program::Ours) {
+        out.extend(tally.ours.faults(&without.acts));
     }
-    out.push_str(&format!("{} requests\n", tally.requests));
-    out.push_str(&format!("{} answered by ours and by paper, rooms varied\n", tally.ours));
+    if !without.programs.contains(&Program::Given) && tally.given.min(tally.cut).min(tally.accepted) == 0 {
+        out.push("nothing was answered by given".to_string());
+    }
+    out
+}
+
+/// The summary, and whether nothing is unexplained or missing.
+pub fn report(tally: &Tally, without: &Without) -> (String, bool) {
+    let mut out = format!("{} requests\n", tally.requests);
+    out.push_str(&format!("{} answered by ours and by paper, rooms varied\n", tally.ours.answers()));
     out.push_str(&format!("{} accepted requests answered by paper and by given-cut\n", tally.cut));
     let (given, accepted) = (tally.given, tally.accepted);
     out.push_str(&format!(
@@ -116,6 +117,54 @@ pub fn report(tally: &Tally) -> (String, bool) {
         out.push_str(&format!("UNEXPLAINED between {}: {}\n", fault.between, fault.request.line()));
         out.push_str(&format!("    {first}\n    {second}\n"));
     }
+    let absences = absences(tally, without);
+    out.push_str(&told(&absences));
     out.push_str(&format!("{} unexplained, {unlisted} classes not listed\n", tally.fault_count));
-    (out, tally.fault_count == 0 && unlisted == 0)
+    (out, tally.fault_count == 0 && unlisted == 0 && absences.is_empty())
+}
+
+#[cfg(test)]
+mod tests {
+    use super::*;
+
+    /// A tally in which every act was asked, and answered where it is none of these.
+    fn tally(absent: &[&str]) -> Tally {
+        let mut tally = Tally { requests: 9, given: 4, cut: 4, accepted: 2, ..Tally::default() };
+        for act in ACTS.into_iter().chain(["formula", "expression"]) {
+            tally.ours.note(act, !absent.contains(&act));
+        }
+        tally
+    }
+
+    /// Only what the tally says; whether programs are there is asked elsewhere.
+    fn faults(tally: &Tally, acts: &str) -> usize {
+        let without = Without::parse(None, Some(acts)).expect("acts");
+        absences(tally, &without).len() - without.faults().len()
+    }
+
+    #[test]
+    fn acts_of_ours_are_absent_exactly_if_they_are_named() {
+        assert_eq!(faults(&tally(&[]), ""), 0);
+        assert_eq!(faults(&tally(&["genmp"]), "genmp"), 0);
+        assert_eq!(faults(&tally(&["genmp"]), ""), 1);
+        assert_eq!(faults(&tally(&[]), "genmp"), 1);
+    }
+
+    #[test]
+    fn a_run_that_asks_nothing_is_no_success() {
+        assert!(!report(&Tally::default(), &Without::default()).1);
+        let every = Without::parse(Some("ours,given"), None).expect("programs");
+        assert!(!report(&Tally::default(), &every).1);
+        let nothing_given = Tally { given: 0, ..tally(&[]) };
+        assert_eq!(faults(&nothing_given, ""), 1);
+    }
+
+    /// Without a library and without the given Rust, a run says so and fails.
+    #[test]
+    fn a_missing_program_is_no_success() {
+        let missing =
+            [Program::Ours, Program::Given].iter().filter(|program| program.missing().is_some()).count();
+        assert_eq!(Without::default().faults().len(), missing);
+        assert_eq!(Without::parse(Some("ours,given"), None).expect("programs").faults().len(), 2 - missing);
+    }
 }

@@ -2,13 +2,14 @@
 
 use std::collections::BTreeMap;
 
-use answers::Part;
+use answers::{Answer, Part};
 use given::Variant;
 
+use crate::absent::Answered;
 use crate::explain::class::Class;
-use crate::explain::{Verdict, compared, is_reading};
+use crate::explain::{Verdict, beside, compared, is_reading};
 use crate::programs::Program;
-use crate::request::{Request, answer_line};
+use crate::request::{AMPLE, Request, answer_line};
 use crate::shrink::{measure, shrink};
 
 /// How often a class is shrunk anew; more often finds nothing smaller.
@@ -35,8 +36,8 @@ pub struct Fault {
 #[derive(Default)]
 pub struct Tally {
     pub requests: usize,
-    /// Requests answered by ours and by paper.
-    pub ours: usize,
+    /// What ours was asked, and what it answered beside paper.
+    pub ours: Answered,
     /// Accepted requests answered by given and given-cut.
     pub given: usize,
     pub cut: usize,
@@ -48,31 +49,41 @@ pub struct Tally {
 }
 
 impl Tally {
-    /// Holds all programs against each other on one request.
+    /// Holds all programs against each other on one request. Document 01's program, the slowest, is asked
+    /// no more often than need be.
     pub fn examine(&mut self, request: &Request) {
         self.requests += 1;
-        self.against_ours(request);
-        self.against_rooms(request);
-        self.against_reading(request);
-        self.against_given(request, Variant::Cut);
-        self.against_given(request, Variant::Unchanged);
+        let paper = Program::Paper.answer(request);
+        let is_ours = self.against_ours(request, &paper);
+        self.against_reading(request, &paper);
+        let ample = request.with_rooms(vec![AMPLE; request.rooms.len()]);
+        let paper = if ample.rooms == request.rooms { paper } else { Program::Paper.answer(&ample) };
+        let Some(paper) = paper else { return };
+        self.against_rooms(&ample, &paper, is_ours);
+        self.against_given(&ample, &paper, Variant::Cut);
+        self.against_given(&ample, &paper, Variant::Unchanged);
     }
 
-    /// Whether the given Rust differs on a request, which is not classed; the others are held as ever.
+    /// Whether the given Rust differs on a request with ample rooms, which is not classed; the others are
+    /// held as ever.
     pub fn differs(&mut self, request: &Request) -> bool {
         self.requests += 1;
-        self.against_ours(request);
-        self.against_given(request, Variant::Cut);
-        let (given, paper) = (Program::Given.answer(request), Program::Paper.answer(request));
+        let Some(paper) = Program::Paper.answer(request) else {
+            return false;
+        };
+        let given = Program::Given.answer(request);
         self.given += usize::from(given.is_some());
-        self.accepted += usize::from(given.is_some() && matches!(paper, Some(Ok(_))));
+        self.accepted += usize::from(given.is_some() && paper.is_ok());
+        self.against_given(request, &paper, Variant::Cut);
+        let paper = Some(paper);
+        self.against_ours(request, &paper);
         given.is_some() && given != paper
     }
 
     /// Takes in what another worker found.
     pub fn merge(&mut self, other: Tally) {
         self.requests += other.requests;
-        self.ours += other.ours;
+        self.ours.merge(other.ours);
         self.given += other.given;
         self.cut += other.cut;
         self.accepted += other.accepted;
@@ -88,54 +99,51 @@ impl Tally {
         }
     }
 
-    fn against_ours(&mut self, request: &Request) {
-        let Some(ours) = Program::Ours.answer(request) else {
-            return;
-        };
-        self.ours += 1;
-        let paper = Program::Paper.answer(request);
-        if Some(&ours) != paper.as_ref() {
+    /// Whether ours has the act.
+    fn against_ours(&mut self, request: &Request, paper: &Option<Answer>) -> bool {
+        let ours = Program::Ours.answer(request);
+        self.ours.note(&request.act, ours.is_some());
+        if ours.is_some() && ours != *paper {
             let mut keeps = |smaller: &Request| {
                 let ours = Program::Ours.answer(smaller);
                 ours.is_some() && ours != Program::Paper.answer(smaller)
             };
             self.fault("ours and paper", request, [Program::Ours, Program::Paper], &mut keeps);
         }
+        ours.is_some()
     }
 
-    /// Exact rooms suffice, and a room one byte short is 14.
-    fn against_rooms(&mut self, request: &Request) {
+    /// Exact rooms suffice for what was answered with ample ones, and a room one byte short is 14.
+    fn against_rooms(&mut self, request: &Request, paper: &Answer, is_ours: bool) {
         // Without ours this only asks the paper program of itself, so that a few requests will do.
-        let due = Program::Ours.answer(request).is_some() || self.requests.is_multiple_of(8);
-        if request.rooms.is_empty() || !due {
-            return;
-        }
-        let Some(exact) = request.exact() else {
+        let due = is_ours || self.requests.is_multiple_of(8);
+        let (Ok(parts), true) = (paper, due && !request.rooms.is_empty()) else {
             return;
         };
-        self.paper_says(&exact, &answer_line(&Program::Paper.answer(request)));
-        self.against_ours(&exact);
-        for index in 0..exact.rooms.len() {
-            for short in [0, exact.rooms[index] - 1] {
-                let mut shorter = exact.clone();
-                shorter.rooms[index] = short;
-                self.paper_says(&shorter, "refuse 14 0");
-                self.against_ours(&shorter);
+        let lengths: Vec<usize> = parts.iter().filter_map(Part::bytes).map(<[u8]>::len).collect();
+        self.in_rooms(&request.with_rooms(lengths.clone()), &answers::line(paper));
+        for index in 0..lengths.len() {
+            for short in [0, lengths[index] - 1] {
+                let mut rooms = lengths.clone();
+                rooms[index] = short;
+                self.in_rooms(&request.with_rooms(rooms), "refuse 14 0");
             }
         }
     }
 
-    fn paper_says(&mut self, request: &Request, expected: &str) {
-        let found = answer_line(&Program::Paper.answer(request));
+    /// Both programs in these rooms, of which paper has to say this.
+    fn in_rooms(&mut self, request: &Request, expected: &str) {
+        let paper = Program::Paper.answer(request);
+        let found = answer_line(&paper);
         if found != expected {
             self.add("paper and its rooms", request, [found, expected.to_string()]);
         }
+        self.against_ours(request, &paper);
     }
 
     /// A result is within the limits: document 01's program reads what it wrote.
-    fn against_reading(&mut self, request: &Request) {
-        let answer = Program::Paper.answer(request);
-        let Some(Ok(parts)) = &answer else { return };
+    fn against_reading(&mut self, request: &Request, paper: &Option<Answer>) {
+        let Some(Ok(parts)) = paper else { return };
         let Some(written) = parts.iter().find_map(Part::bytes) else { return };
         let again = if request.has_sequent() {
             Request::ample("read", vec![written.to_vec()])
@@ -144,15 +152,16 @@ impl Tally {
         };
         let read = Program::Paper.answer(&again);
         if !matches!(read, Some(Ok(_))) {
-            self.add("paper and its reading", request, [answer_line(&answer), answer_line(&read)]);
+            self.add("paper and its reading", request, [answer_line(paper), answer_line(&read)]);
         }
     }
 
-    fn against_given(&mut self, request: &Request, variant: Variant) {
-        let Some((paper, _, verdict)) = compared(request, variant) else {
+    /// The request has ample rooms.
+    fn against_given(&mut self, request: &Request, paper: &Answer, variant: Variant) {
+        let Some((_, verdict)) = beside(request, paper, variant) else {
             return;
         };
-        let is_accepted = !matches!(&paper, Err(refusal) if is_reading(refusal));
+        let is_accepted = !matches!(paper, Err(refusal) if is_reading(refusal));
         match variant {
             Variant::Cut => self.cut += usize::from(is_accepted),
             Variant::Unchanged => {

@@ -3,6 +3,7 @@
 //! seed gives), act and kind of answer a fixed number is kept, so that no rare kind is lost.
 
 pub mod kinds;
+pub mod planted;
 mod strata;
 #[cfg(test)]
 mod tests;
@@ -135,6 +136,7 @@ pub fn table(lines: &[Line]) -> String {
         let count = |heading: &String| counts.get(&(act, heading.clone())).map(usize::to_string);
         out.push_str(&row(act, &|heading| count(heading).unwrap_or_default()));
     }
-    out.push_str(&format!("{} lines\n", lines.len()));
+    let planted = planted::lines(lines).len();
+    out.push_str(&format!("{} lines, and {planted} planted wrong ones\n", lines.len()));
     out
 }

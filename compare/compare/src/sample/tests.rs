@@ -7,8 +7,10 @@ use answers::{Part, Refusal};
 use paper::tree::Tree;
 
 use super::kinds::allowed;
+use super::planted::Fault;
 use super::*;
 use crate::explain::class::Class;
+use crate::exports::NOT_YET;
 use crate::lines::{Mode, work};
 use crate::loose;
 use crate::request::AMPLE;
@@ -39,7 +41,7 @@ fn the_table_counts_each_line() {
     let table = table(&[line("read -"), line("read 53"), line("read 535154010000000001")]);
     let row = table.lines().find(|row| row.starts_with("read")).expect("a row");
     assert_eq!(row.split_ascii_whitespace().collect::<Vec<_>>(), ["read", "1", "2"]);
-    assert!(table.ends_with("\n3 lines\n"));
+    assert!(table.contains("\n3 lines, and "));
 }
 
 /// Those that have more than one: 2 to 4 have one in a sequent, and the acts' own refusals have place 0.
@@ -57,12 +59,18 @@ fn refusals_are_at_different_places() {
     }
 }
 
+/// Right lines are right, and each planted one is found wrong where its act is there.
 #[test]
 fn each_line_is_answered_so() {
-    for (by, mode) in [(Program::Paper, Mode::Check), (Program::Ours, Mode::CheckOrAbsent)] {
+    let planted = planted::lines(stored());
+    let wrong: Vec<String> = planted.iter().map(|planted| format!("!{}\n", planted.text)).collect();
+    let text = text(stored()) + &wrong.concat();
+    for by in [Program::Paper, Program::Ours].into_iter().filter(|by| by.missing().is_none()) {
         let mut out = Vec::new();
-        let mismatches = work(by, mode, text(stored()).as_bytes(), &mut out).expect("memory can be written");
-        assert_eq!(mismatches, 0, "{}: {}", by.name(), String::from_utf8_lossy(&out));
+        let lacked = NOT_YET.into_iter().chain(["equal"]).filter(|_| by == Program::Ours);
+        let absent = lacked.map(str::to_string).collect();
+        let good = work(by, Mode::Check(&absent), text.as_bytes(), &mut out);
+        assert!(good.expect("memory can be written"), "{}: {}", by.name(), String::from_utf8_lossy(&out));
     }
 }
 
@@ -195,6 +203,27 @@ fn the_sample_is_as_large_as_a_program_can_take() {
         assert!(line.request.buffers.iter().all(|buffer| buffer.len() <= 70_000));
         assert!(line.request.rooms.iter().all(|room| *room <= 66_000));
     }
+}
+
+/// Every sort of fault that an act's answers can have.
+#[test]
+fn each_sort_of_fault_is_planted() {
+    let planted = planted::lines(stored());
+    assert!((60..=120).contains(&planted.len()), "{}", planted.len());
+    let unread = [Fault::Refused, Fault::Number, Fault::Place, Fault::Accepted];
+    let written = [Fault::Byte, Fault::Longer, Fault::Shorter];
+    for act in ACTS.into_iter().chain(["formula", "expression"]) {
+        let found: BTreeSet<Fault> =
+            planted.iter().filter(|planted| planted.act == act).map(|planted| planted.fault).collect();
+        let results: &[Fault] = match act {
+            "read" | "formula" | "expression" => &[Fault::Count],
+            "genmp" | "onepoint" => &written,
+            _ => &[&written[..], &[Fault::Changed]].concat(),
+        };
+        assert_eq!(found, unread.iter().chain(results).copied().collect(), "{act}");
+    }
+    let of = |act: &str| planted.iter().filter(|planted| planted.act == act).count();
+    assert_eq!((of("equal"), of("")), (2, planted::MALFORMED.len()));
 }
 
 #[test]
