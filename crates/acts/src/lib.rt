@@ -1,4 +1,6 @@
 // The acts on hypotheses of document 01 (sequent.rs).
+#![tactic(auto)]
+
 pub mod driver;
 pub mod flags;
 pub mod lists;

@@ -1,4 +1,6 @@
 // What is lent with an act: formulas and lists that are read, and the buffer into which a sequent is written.
+#![tactic(auto)]
+
 pub mod buffer;
 pub mod write;
 

@@ -1,4 +1,6 @@
 // cofferdrift: one act on sequent files. It prints one line: `ok ..`, `refused NUMBER at PLACE: ..`, or `misuse: ..`.
+#![tactic(auto)]
+
 mod files;
 mod requests;
 mod words;

@@ -1,4 +1,6 @@
 // The desk: a sequent at work. Its bytes, where its hypotheses stand, its flags as masks; a formula is found there, or appended. Crates `steps` and `inference` are what acts are made of.
+#![tactic(auto)]
+
 pub mod append;
 pub mod find;
 pub mod mask;

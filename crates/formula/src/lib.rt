@@ -1,4 +1,6 @@
 // Formulas: the node table, bytes, equality and skipping. Crate `reader` reads them.
+#![tactic(auto)]
+
 pub mod bytes;
 pub mod equal;
 pub mod skip;

@@ -1,4 +1,6 @@
 // The step of forward inference: sources weighed, and formulas inferred from them.
+#![tactic(auto)]
+
 pub mod infer;
 
 use desk::View;

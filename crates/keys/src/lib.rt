@@ -1,4 +1,6 @@
 // Document 01's keys: stripping ¬, the lists as one table, and whether a row's key is the predicate asked.
+#![tactic(auto)]
+
 pub mod ranges;
 pub mod rows;
 pub mod strip;

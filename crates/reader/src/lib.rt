@@ -1,4 +1,6 @@
 // The formula reader: of any bytes a formula's end, or 1, 7, 8 or 9 with its place.
+#![tactic(auto)]
+
 pub mod node;
 pub mod reader;
 pub mod shape;

@@ -1,4 +1,6 @@
 // Every refusal: its cause, its number, and what is said of it.
+#![tactic(auto)]
+
 ghost use Rattle.std.specs.Prelude.{◌≡◌};
 ghost use Rattle.refusal.specs.Refusal.{number, place_of, said_of, act_said};
 

@@ -1,4 +1,6 @@
 // The sequent file, read: its hypotheses and goal, its flags counted, and every refusal with its place.
+#![tactic(auto)]
+
 pub mod file;
 
 ghost use Rattle.std.specs.Prelude.{◌≡◌};

@@ -1,4 +1,6 @@
 // Steps that acts are made of: flags changed, and formulas added, one or those of a list.
+#![tactic(auto)]
+
 pub mod add;
 pub mod flags;
 

@@ -1,4 +1,6 @@
 // What a source says of a predicate: its keys by position, and the first for it.
+#![tactic(auto)]
+
 pub mod sources;
 
 ghost use Rattle.std.specs.Prelude.{◌≡◌};

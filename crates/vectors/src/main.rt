@@ -1,4 +1,6 @@
 // Asks what each line of standard input asks, and says which answers differ from the line's own.
+#![tactic(auto)]
+
 mod answers;
 mod judge;
 mod questions;
