@@ -1,18 +1,17 @@
 -- THE THEOREMS: which bytes are accepted as a formula, and that the formula is one.
-use Prim.Native.Nat.{ℕ, zero, suc, ◌+◌, ◌≤◌}
+use Prim.Native.Nat.{ℕ, ◌+◌, ◌≤◌}
 use mathlib.Core.Path.{◌≡◌, refl, sym, ap, ◌∙◌, subst}
 use mathlib.Core.Option.{Option, some, none}
-use mathlib.Core.List.{List, [], ◌∷◌, ◌++◌}
+use mathlib.Core.List.{List, ◌++◌}
 use native.Mathlib.Omega.{arith}
 use lib.ListN.{length, drop, length-map}
-use Rattle.formula.specs.Types.{Ty, type_of_byte, types_of}
+use Rattle.formula.specs.Types.{type_of_byte, types_of}
 use Rattle.formula.specs.Tree.{Tree, encode}
 use Rattle.formula.specs.Formed.{Formed}
 use Rattle.formula.specs.Typing.{first_wrong}
 use Rattle.formula.specs.Reading.{Parsed, got, not_got, formula_at}
 use Rattle.formula.specs.Formula.{typed?, asked8, tree_at, end_or_refusal, read_formula, Formula}
 use Rattle.formula.specs.declared.Sort.{Sort}
-use Rattle.formula.specs.declared.Reading.{Reading}
 use Rattle.formula.specs.declared.Reading.TheVariants as reading
 use Rattle.formula.proofs.Places.{AllBytes}
 use Rattle.formula.proofs.Round.{reads}

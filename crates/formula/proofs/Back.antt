@@ -1,23 +1,22 @@
 -- What is read is a formula, and its bytes stand there.
 use Prim.Native.Nat.{ℕ, zero, suc, ◌+◌, ◌<◌, ◌≤◌}
 use mathlib.Core.Path.{◌≡◌, refl, sym, ap, ◌∙◌, subst}
-use mathlib.Core.Bool.{Bool, true, false, not}
+use mathlib.Core.Bool.{Bool, true, false}
 use mathlib.Core.Option.{Option, some, none}
 use mathlib.Core.List.{List, ◌∷◌, ◌++◌, append_assoc}
 use native.Mathlib.Numerals.{sub-one}
 use native.Mathlib.Omega.{arith}
 use lib.ListN.{length, get_or, drop, length-append}
 use lib.Dec.{ltb, leb, eqb}
-use borrow.Author.Tests.{leb-false, ltb-false, eqb-false, not-false}
+use borrow.Author.Tests.{ltb-false, eqb-false}
 use Rattle.formula.specs.Pick.{pick}
 use Rattle.formula.specs.Codes.{Code, byte_of, code_at, with_number}
-use Rattle.formula.specs.NodeTable.{row_of, width, own_length, operands, sort_of, sort_of_kinds, sort_of_rest, same_sort}
+use Rattle.formula.specs.NodeTable.{row_of, width, own_length, operands, sort_of_kinds, sort_of_rest}
 use Rattle.formula.specs.Tree.{Tree, node, Trees, ◌▹◌, size, number_of, number_bytes, encode, encodes}
 use Rattle.formula.specs.Formed.{inner, Formed, AllFormed}
 use Rattle.formula.specs.Reading.{Parsed, got, not_got, on_fault, on_got, number_at, own_bytes, node_at, operands_by, node_by, formula_at}
 use Rattle.refusal.specs.declared.Cause.{Cause}
 use Rattle.formula.specs.declared.Sort.{Sort}
-use Rattle.formula.specs.declared.Sort.TheVariants as sort
 use Rattle.formula.specs.NodeFault.{Fault, other_sort, number_out, node_fault}
 use Rattle.formula.proofs.FaultLaws.{no_fault}
 use Rattle.formula.proofs.Places.{AllBytes, one_more}

@@ -1,6 +1,6 @@
 -- What a test that holds, a choice that came out, and a find that found nothing say of their parts.
 use Prim.Native.Nat.{ℕ}
-use mathlib.Core.Path.{◌≡◌, refl, sym, ap, ◌∙◌}
+use mathlib.Core.Path.{◌≡◌, refl}
 use mathlib.Core.Bool.{Bool, true, false, false≢true, not, ◌&&◌, ◌||◌}
 use mathlib.Core.Option.{Option, some, none}
 use mathlib.Core.Logic.{◌⊎◌, inl, inr}

@@ -2,7 +2,7 @@
 use Prim.Native.Nat.{ℕ, zero, suc, ◌+◌}
 use mathlib.Core.Path.{◌≡◌, refl, sym, ap, ◌∙◌}
 use mathlib.Core.List.{List, [], ◌∷◌}
-use mathlib.Core.Bool.{Bool, true, false, ◌&&◌}
+use mathlib.Core.Bool.{Bool, true, ◌&&◌}
 use mathlib.Core.Option.{Option, some, none}
 use native.Mathlib.Omega.{arith}
 use lib.Dec.{eqb}
@@ -23,7 +23,14 @@ module _ (n : ℕ) where
   same_row = elim [ con c ↦ refl | ident i ↦ refl | bound i ↦ refl | lit w ↦ refl | rel r ↦ refl | fun f ↦ refl | many m ↦ refl | qu b i ↦ refl ]
 
   pub last_number : (k : Code) (m : ℕ) → with_number (with_number k m) n ≡ with_number k n
-  last_number k m = elim k [ con c ↦ refl | ident i ↦ refl | bound i ↦ refl | lit w ↦ refl | rel r ↦ refl | fun f ↦ refl | many m ↦ refl | qu b i ↦ refl ]
+  last_number (con c) m = refl
+  last_number (ident i) m = refl
+  last_number (bound i) m = refl
+  last_number (lit w) m = refl
+  last_number (rel r) m = refl
+  last_number (fun f) m = refl
+  last_number (many c) m = refl
+  last_number (qu b i) m = refl
 
 -- ---- the table has each code at its byte
 con_listed : (c : Con) → code_at (con_byte c) ≡ some (con c)

@@ -1,14 +1,14 @@
 -- A test of every entry of a list with gaps, turned into the rule at each.
 use Prim.Native.Nat.{ℕ, zero, suc}
 use mathlib.Core.Path.{◌≡◌, refl, sym, ap, ◌∙◌}
-use mathlib.Core.Bool.{Bool, true, false, not, ◌&&◌}
+use mathlib.Core.Bool.{Bool, true, ◌&&◌}
 use mathlib.Core.Option.{Option, some, none}
 use mathlib.Core.List.{List, [], ◌∷◌}
 use lib.Dec.{eqb}
 use borrow.Author.Tests.{eqb-true}
 use Rattle.formula.specs.Pick.{at}
 use Rattle.formula.specs.Codes.{Code, codes, code_at}
-use Rattle.formula.specs.Types.{Base, prop, int, boo, set, nats, nats1, Kind, one, pairs}
+use Rattle.formula.specs.Types.{prop, int, boo, set, nats, nats1, Kind, one, pairs}
 use Rattle.formula.specs.declared.Sort.{Sort}
 use Rattle.formula.specs.declared.Sort.TheVariants as sorts
 use Rattle.formula.proofs.Choices.{none_some, and_left, and_right, agree, agree_is}

@@ -2,12 +2,12 @@
 use Prim.Native.Nat.{ℕ}
 use mathlib.Core.Path.{◌≡◌, refl, sym, ap}
 use mathlib.Core.Bool.{Bool, true, false}
-use mathlib.Core.Option.{Option, some, none}
+use mathlib.Core.Option.{none}
 use native.Mathlib.Omega.{arith}
 use borrow.Author.Tests.{not-false}
 use Rattle.formula.specs.Codes.{Code}
 use Rattle.formula.specs.NodeTable.{row_of, Number, sort_of, same_sort}
-use Rattle.formula.specs.NodeFault.{Fault, other_sort, number_out, node_fault}
+use Rattle.formula.specs.NodeFault.{other_sort, number_out, node_fault}
 use Rattle.formula.specs.Tree.{number_of}
 use Rattle.formula.specs.Formed.{fault_in}
 use Rattle.formula.specs.declared.Sort.{Sort}

@@ -12,7 +12,7 @@ use Rattle.formula.specs.Pick.{pick}
 use Rattle.formula.specs.Codes.{Code}
 use Rattle.formula.specs.Types as T
 use Rattle.formula.specs.Types.{Base, prop, int, boo, set, nats, nats1, Ty, base, pair, one, pairs, kind_of, type_of_byte, types_of}
-use Rattle.formula.specs.NodeTable.{row_of, own_length, is}
+use Rattle.formula.specs.NodeTable.{row_of, own_length}
 use Rattle.formula.specs.Tree.{Tree, node, Trees, nil, ◌▹◌, size, number_of}
 use Rattle.formula.specs.Typing.{pair_of, result_of, head_type, head_types}
 use Rattle.formula.specs.Mirror.PackedTable.{row_at, bit, result_bit, ident_type, type_by}

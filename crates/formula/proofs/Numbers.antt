@@ -32,7 +32,12 @@ carried (count lo hi) n = n
 carried (variables lo hi) n = n
 
 pub bytes_long : (f : Number) (n : ℕ) → length (bytes_of f n) ≡ width f
-bytes_long f n = elim f [ nothing ↦ refl | identifier ↦ refl | index ↦ refl | word ↦ le_long 8 n | count lo hi ↦ refl | variables lo hi ↦ refl ]
+bytes_long nothing n = refl
+bytes_long identifier n = refl
+bytes_long index n = refl
+bytes_long word n = le_long 8 n
+bytes_long (count lo hi) n = refl
+bytes_long (variables lo hi) n = refl
 
 module _ (s : List ℕ) (i : ℕ) where
   word_there : (n : ℕ) (r : List ℕ) → n < 2 ^ 64 → drop i s ≡ bytes_le 8 n ++ r → of_le (take 8 (drop i s)) ≡ n
@@ -94,10 +99,22 @@ bind_declares : (b : Bind) → (bind_row b).number ≡ variables 1 8
 bind_declares = elim [ all ↦ refl | ex ↦ refl | compr ↦ refl ]
 
 many_bytes : (m : Many) (n : ℕ) → n ∷ [] ≡ bytes_of (many_row m).number n
-many_bytes m n = elim m [ and ↦ refl | or ↦ refl | add ↦ refl | mul ↦ refl | union ↦ refl | inter ↦ refl | ext ↦ refl ]
+many_bytes and n = refl
+many_bytes or n = refl
+many_bytes add n = refl
+many_bytes mul n = refl
+many_bytes union n = refl
+many_bytes inter n = refl
+many_bytes ext n = refl
 
 many_counted : (m : Many) (n : ℕ) → operands (many_row m).arity n ≡ carried (many_row m).number n
-many_counted m n = elim m [ and ↦ refl | or ↦ refl | add ↦ refl | mul ↦ refl | union ↦ refl | inter ↦ refl | ext ↦ refl ]
+many_counted and n = refl
+many_counted or n = refl
+many_counted add n = refl
+many_counted mul n = refl
+many_counted union n = refl
+many_counted inter n = refl
+many_counted ext n = refl
 
 pub own_bytes_law : (k : Code) (n : ℕ) → number_bytes k n ≡ bytes_of (row_of k).number (number_of k n)
 own_bytes_law (con c) n = rw (con_plain c)
@@ -124,4 +141,11 @@ given_number (many m) n = many_counted m n
 given_number (qu b k) n = rw (bind_declares b)
 
 pub own_number : (k : Code) (n : ℕ) → with_number k (number_of k n) ≡ k
-own_number k n = elim k [ con c ↦ refl | ident i ↦ refl | bound i ↦ refl | lit w ↦ refl | rel r ↦ refl | fun f ↦ refl | many m ↦ refl | qu b i ↦ refl ]
+own_number (con c) n = refl
+own_number (ident i) n = refl
+own_number (bound i) n = refl
+own_number (lit w) n = refl
+own_number (rel r) n = refl
+own_number (fun f) n = refl
+own_number (many m) n = refl
+own_number (qu b i) n = refl

@@ -1,22 +1,22 @@
 -- The own bytes of a node that stands somewhere: its packed row, its one-byte number, and how many operands follow.
-use Prim.Native.Nat.{ℕ, zero, suc, ◌+◌, ◌≤◌}
+use Prim.Native.Nat.{ℕ, ◌+◌, ◌≤◌}
 use mathlib.Core.Path.{◌≡◌, refl, sym, ap, ◌∙◌}
-use mathlib.Core.Bool.{Bool, true, false, not, ◌&&◌}
-use mathlib.Core.Option.{Option, some, none}
-use mathlib.Core.List.{List, [], ◌∷◌}
+use mathlib.Core.Bool.{Bool, true, false, ◌&&◌}
+use mathlib.Core.Option.{some}
+use mathlib.Core.List.{List}
 use native.Mathlib.Omega.{arith}
 use lib.ListN.{get_or}
 use lib.Dec.{eqb, leb}
-use borrow.Author.Tests.{eqb-true, leb-true, not-true}
-use Rattle.formula.specs.Pick.{pick, at}
-use Rattle.formula.specs.Codes.{Code, codes, code_at, byte_of}
+use borrow.Author.Tests.{eqb-true, leb-true}
+use Rattle.formula.specs.Pick.{pick}
+use Rattle.formula.specs.Codes.{Code, codes, code_at}
 use Rattle.formula.specs.Types.{Base, base, pair}
 use Rattle.formula.specs.NodeTable.{Row, row_of, Number, nothing, identifier, index, word, count, variables, width, Arity, fixed, counted, operands, Result, is, of_identifier, of_pair}
 use Rattle.formula.specs.Tree.{number_of}
 use Rattle.formula.specs.Reading.{number_at}
-use Rattle.formula.specs.Mirror.PackedTable.{row_at, own, limit, arity_byte, count_of}
+use Rattle.formula.specs.Mirror.PackedTable.{row_at, arity_byte, count_of}
 use Rattle.formula.specs.Mirror.Bytes.{byte_at, own_byte}
-use Rattle.formula.proofs.Choices.{never, none_some, and_left, and_right}
+use Rattle.formula.proofs.Choices.{never, and_left, and_right}
 use Rattle.formula.proofs.Every.{every, every_code}
 use Rattle.formula.proofs.Coded.{every_row}
 use Rattle.formula.proofs.NodeType.{names?}

@@ -1,16 +1,13 @@
 -- What is read stands there.
-use Prim.Native.Nat.{ℕ, zero, suc, ◌+◌, ◌-◌, ◌<◌, ◌≤◌}
+use Prim.Native.Nat.{ℕ, zero, suc, ◌+◌}
 use mathlib.Core.Path.{◌≡◌, refl, sym, ap, ◌∙◌, subst}
-use mathlib.Core.Option.{Option, some, none}
 use mathlib.Core.List.{List}
 use native.Mathlib.Numerals.{sub-one}
-use native.Mathlib.Omega.{arith}
-use lib.ListN.{length, get_or}
 use Rattle.formula.specs.Codes.{Code, code_at}
-use Rattle.formula.specs.NodeTable.{Row, row_of, own_length, sort_of_kinds, sort_of_rest}
-use Rattle.formula.specs.Tree.{Tree, node, Trees, nil, ◌▹◌, size}
+use Rattle.formula.specs.NodeTable.{row_of, own_length, sort_of_kinds, sort_of_rest}
+use Rattle.formula.specs.Tree.{Tree, Trees, size}
 use Rattle.formula.specs.Formed.{inner}
-use Rattle.formula.specs.Reading.{Parsed, got, node_at, operands_by, node_by, formula_at}
+use Rattle.formula.specs.Reading.{got, node_at, operands_by, node_by, formula_at}
 use Rattle.formula.specs.declared.Sort.{Sort}
 use Rattle.formula.proofs.FaultLaws.{number_in}
 use Rattle.formula.proofs.Coded.{code_back}

@@ -1,7 +1,6 @@
 -- A formula's bytes are read as that formula.
 use Prim.Native.Nat.{ℕ, zero, suc, ◌+◌, ◌<◌, ◌≤◌}
 use mathlib.Core.Path.{◌≡◌, refl, sym, ap, ◌∙◌}
-use mathlib.Core.Bool.{true}
 use mathlib.Core.List.{List, [], ◌∷◌, ◌++◌, append_assoc}
 use native.Mathlib.Numerals.{sub-one}
 use native.Mathlib.Nat.{add-zero}
@@ -14,7 +13,7 @@ use Rattle.formula.specs.Tree.{Tree, node, Trees, nil, ◌▹◌, size, number_o
 use Rattle.formula.specs.Formed.{Allowed, inner, Formed, AllFormed}
 use Rattle.formula.specs.Reading.{Parsed, got, number_at, node_at, operands_by, node_by, formula_at}
 use Rattle.formula.specs.declared.Sort.{Sort}
-use Rattle.formula.proofs.FaultLaws.{Faultless, sound}
+use Rattle.formula.proofs.FaultLaws.{sound}
 use Rattle.formula.proofs.Places.{head_is, behind, reaches}
 use Rattle.formula.proofs.Coded.{listed, same_row, last_number}
 use Rattle.formula.proofs.Numbers.{carried, number_there, own_bytes_law, own_long, own_number, given_number}

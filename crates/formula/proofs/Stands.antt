@@ -1,12 +1,12 @@
 -- A formula that stands at a place of some bytes, and where it ends.
-use Prim.Native.Nat.{ℕ, zero, suc, ◌+◌, ◌-◌, ◌<◌, ◌≤◌}
-use mathlib.Core.Path.{◌≡◌, refl, sym, ap, ◌∙◌}
-use mathlib.Core.Bool.{Bool, true, false}
-use mathlib.Core.Option.{Option, some, none}
+use Prim.Native.Nat.{ℕ, ◌+◌, ◌-◌, ◌<◌, ◌≤◌}
+use mathlib.Core.Path.{◌≡◌}
+use mathlib.Core.Bool.{false}
+use mathlib.Core.Option.{some}
 use mathlib.Core.List.{List}
 use lib.ListN.{length, get_or}
 use Rattle.formula.specs.Codes.{Code, code_at}
-use Rattle.formula.specs.NodeTable.{Row, row_of, own_length, operands}
+use Rattle.formula.specs.NodeTable.{row_of, own_length, operands}
 use Rattle.formula.specs.NodeFault.{number_out}
 use Rattle.formula.specs.Tree.{Tree, node, Trees, nil, ◌▹◌, size, number_of}
 use Rattle.formula.specs.Reading.{number_at}

@@ -1,16 +1,15 @@
 -- The packed table says, column by column, what the table in words says: one computed test over all rows.
-use Prim.Native.Nat.{ℕ, zero, suc, ◌+◌, ◌<◌, ◌≤◌}
-use mathlib.Core.Path.{◌≡◌, refl, sym, ap, ◌∙◌}
-use mathlib.Core.Bool.{Bool, true, false, not, ◌&&◌, ◌||◌}
+use Prim.Native.Nat.{ℕ, zero, suc}
+use mathlib.Core.Path.{◌≡◌, refl, ap, ◌∙◌}
+use mathlib.Core.Bool.{Bool, true, false}
 use mathlib.Core.Option.{Option, some, none}
 use mathlib.Core.List.{List, [], ◌∷◌, map}
 use native.Mathlib.Omega.{arith}
-use lib.ListN.{length, get_or}
-use lib.Dec.{eqb, ltb, leb}
+use lib.ListN.{get_or}
+use lib.Dec.{eqb, ltb}
 use borrow.Author.Tests.{ltb-true, ne_eqb}
 use Rattle.formula.specs.Pick.{pick, at}
 use Rattle.formula.specs.Codes.{Code, codes, code_at}
-use Rattle.formula.specs.Types.{Rest, these, as_first}
 use Rattle.formula.specs.NodeTable.{Row, row_of, Number, nothing, identifier, index, word, count, variables, width, Arity, fixed, counted, operands, declares, sort_of}
 use Rattle.formula.specs.Mirror.PackedTable.{table, row_at, field, own, lo, lim, kids, first, rest, res, sort, pack, pack_code, least, limit, binder, binds, number_in, arity_byte, mask, rest_mask, result_bit, sort_mask, count_of, binds_of}
 use Rattle.formula.proofs.Every.{every, number_at, test_at}

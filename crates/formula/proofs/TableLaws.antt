@@ -1,19 +1,15 @@
 -- The cases of the columns, as laws from facts about numbers and from what the calls answered.
-use Prim.Native.Nat.{ℕ, zero, suc, ◌+◌, ◌-◌, ◌*◌, ◌/◌, ◌%◌, ◌^◌, ◌<◌, ◌≤◌}
-use mathlib.Core.Path.{◌≡◌, refl, sym, ap, ◌∙◌, subst}
+use Prim.Native.Nat.{ℕ, zero, suc, ◌/◌, ◌%◌, ◌^◌, ◌<◌, ◌≤◌}
+use mathlib.Core.Path.{◌≡◌, refl, sym, ◌∙◌}
 use mathlib.Core.Bool.{Bool, true, false, ◌||◌}
 use mathlib.Core.List.{List}
-use native.Mathlib.Numerals.{sub-one}
 use native.Mathlib.Omega.{arith}
 use lib.ListN.{length, get_or, get_or-eq_default}
 use lib.Dec.{eqb, ltb, leb}
-use lib.Bits.{bit_and}
-use borrow.Author.Tests.{le-ltb, lt-ltb, le-leb, lt-leb, eq-eqb, ne_eqb, leb-false, ltb-false, eqb-true}
-use mir.Syntax.{w64}
-use mir.Val.{Fits}
+use borrow.Author.Tests.{le-ltb, lt-ltb, eq-eqb, ne_eqb}
 use Rattle.formula.specs.Pick.{pick}
 use Rattle.formula.specs.Codes.{codes}
-use Rattle.formula.specs.NodeTable.{Number, nothing, word, count, variables}
+use Rattle.formula.specs.NodeTable.{count, variables}
 use Rattle.formula.specs.NodeFault.{number_out, number_fault}
 use Rattle.formula.specs.Mirror.PackedTable.{table, row_at, root_row, field, number_in, count_of, binds_of, ident_type, type_by}
 use Rattle.refusal.specs.declared.Cause.TheVariants as cause

@@ -1,21 +1,20 @@
 -- Masks are one-hot: "may stand here" by one `and` is what the kinds and sorts say.
-use Prim.Native.Nat.{ℕ, zero, suc, ◌+◌, ◌<◌, ◌≤◌}
+use Prim.Native.Nat.{ℕ, zero, suc}
 use mathlib.Core.Path.{◌≡◌, refl, sym, ap, ◌∙◌}
 use mathlib.Core.Bool.{Bool, true, false, not, ◌&&◌, ◌||◌}
-use mathlib.Core.Option.{Option, some, none}
+use mathlib.Core.Option.{some}
 use mathlib.Core.List.{List, [], ◌∷◌}
-use native.Mathlib.Omega.{arith}
 use lib.Dec.{eqb}
 use lib.Bits.{bit_and}
 use borrow.Author.Tests.{not-true}
 use Rattle.formula.specs.Codes.{Code, codes, code_at}
-use Rattle.formula.specs.Types.{Base, prop, int, boo, set, nats, nats1, Ty, base, pair, Kind, one, pairs, kind_of, eq_kind, among?, Want, among, same, Rest, these, as_first}
-use Rattle.formula.specs.NodeTable.{Row, row_of, Arity, fixed, counted, operands, sort_of, sort_of_ty, sort_of_kinds, sort_of_rest, same_sort}
-use Rattle.formula.specs.Mirror.PackedTable.{bit, mask, rest_mask, sort_mask}
+use Rattle.formula.specs.Types.{prop, int, boo, set, nats, nats1, Ty, base, pair, Kind, one, pairs, kind_of, eq_kind, among?, Want, among, same, Rest, these, as_first}
+use Rattle.formula.specs.NodeTable.{row_of, Arity, fixed, counted, sort_of_ty, sort_of_kinds, same_sort}
+use Rattle.formula.specs.Mirror.PackedTable.{bit, mask, sort_mask}
 use Rattle.formula.specs.declared.Sort.{Sort}
 use Rattle.formula.specs.declared.Sort.TheVariants as sorts
 use Rattle.formula.proofs.Choices.{never, and_left, and_right, agree, agree_is}
-use Rattle.formula.proofs.Every.{every, every_at, every_code, kinds, every_kind, both_sorts, every_sort}
+use Rattle.formula.proofs.Every.{every, every_code, kinds, every_kind, both_sorts, every_sort}
 
 abbrev pub kind_in : Want → Kind → Bool
 kind_in (among ks) κ = among? κ ks

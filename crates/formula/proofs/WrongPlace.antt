@@ -1,18 +1,15 @@
 -- Where refusal 8 finds a wrong node: inside the formula; and whether it does, no matter where the formula stands.
 use Prim.Native.Nat.{ℕ, ◌+◌, ◌≤◌, ◌<◌}
 use native.Mathlib.Omega.{arith}
-use mathlib.Core.Path.{◌≡◌, refl, ap, ◌∙◌}
+use mathlib.Core.Path.{◌≡◌, refl}
 use mathlib.Core.List.{List}
-use mathlib.Core.Bool.{Bool}
 use mathlib.Core.Option.{some, none, none-ne-some}
 use mathlib.Core.Logic.{⊎_elim}
 use lib.ListN.{length, length-append}
-use lib.Dec.{eqb}
-use borrow.Author.Tests.{eqb-true}
-use Rattle.formula.specs.Codes.{Code, con, ident, bound, lit, rel, fun, many, qu, codes, with_number}
+use Rattle.formula.specs.Codes.{Code}
 use Rattle.formula.specs.Types.{Ty}
-use Rattle.formula.specs.NodeTable.{row_of, width, own_length}
-use Rattle.formula.specs.Tree.{Tree, node, Trees, nil, ◌▹◌, number_bytes, encode, encodes}
+use Rattle.formula.specs.NodeTable.{own_length}
+use Rattle.formula.specs.Tree.{Tree, node, Trees, nil, ◌▹◌, encode, encodes}
 use Rattle.formula.specs.Typing.{head_types, right, first_wrong, first_wrong_in}
 use Rattle.formula.proofs.Choices.{pick_none, pick_cases, or_else_none, or_else_cases}
 use Rattle.formula.proofs.Numbers.{own_long}

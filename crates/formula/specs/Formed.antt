@@ -1,8 +1,8 @@
 -- A tree that the table allows: of the sort expected, in scope, with counts in range, of at most l levels.
-use Rattle.std.specs.Prelude.{ℕ, zero, suc, ◌+◌, ◌-◌, ◌<◌, ◌≤◌, ◌^◌, ◌≡◌, false}
+use Rattle.std.specs.Prelude.{ℕ, ◌+◌, ◌-◌, ◌<◌, ◌^◌, ◌≡◌, false}
 use Rattle.std.proofs.Math.Option.{Option, none}
 use Rattle.formula.specs.Codes.{Code}
-use Rattle.formula.specs.NodeTable.{Row, row_of, operands, declares, sort_of_kinds, sort_of_rest}
+use Rattle.formula.specs.NodeTable.{row_of, operands, declares, sort_of_kinds, sort_of_rest}
 use Rattle.formula.specs.NodeFault.{Fault, other_sort, number_out, node_fault}
 use Rattle.formula.specs.Tree.{Tree, node, Trees, nil, ◌▹◌, size, number_of}
 use Rattle.formula.specs.declared.Sort.{Sort}

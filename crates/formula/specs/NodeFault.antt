@@ -1,9 +1,9 @@
 -- What is wrong with the own bytes of one node: the cause and the place, in the order in which they are asked.
-use Rattle.std.specs.Prelude.{ℕ, Bool, true, false, not, ◌||◌, ltb, leb}
+use Rattle.std.specs.Prelude.{ℕ, Bool, false, not, ◌||◌, ltb, leb}
 use Rattle.std.proofs.Math.Option.{Option, some, none}
 use Rattle.formula.specs.Pick.{pick}
 use Rattle.formula.specs.Codes.{Code}
-use Rattle.formula.specs.NodeTable.{Row, row_of, Number, nothing, identifier, index, word, count, variables, sort_of, same_sort}
+use Rattle.formula.specs.NodeTable.{row_of, Number, nothing, identifier, index, word, count, variables, sort_of, same_sort}
 use Rattle.formula.specs.declared.Sort.{Sort}
 use Rattle.refusal.specs.declared.Cause.{Cause}
 use Rattle.refusal.specs.declared.Cause.TheVariants as cause

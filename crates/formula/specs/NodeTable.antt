@@ -1,9 +1,8 @@
 -- Document 01, "Node codes, with operand counts and kinds, are one fixed table": the table in words.
-use Rattle.std.specs.Prelude.{ℕ, ◌+◌, List, [], ◌∷◌, Bool, true, false, ◌||◌, ltb, leb}
-use Rattle.std.proofs.Math.Option.{Option, some, none}
+use Rattle.std.specs.Prelude.{ℕ, ◌+◌, List, [], ◌∷◌, Bool, true, false}
 use Rattle.formula.specs.Codes as C
 use Rattle.formula.specs.Codes.{Con, Rel, Fun, Many, Bind, Code, con, ident, bound, lit, rel, fun, many, qu}
-use Rattle.formula.specs.Types.{Base, prop, int, boo, set, nats, nats1, Ty, base, pair, Kind, one, pairs, type_at, Rest, these, as_first}
+use Rattle.formula.specs.Types.{prop, int, boo, set, nats, nats1, Ty, base, pair, Kind, one, pairs, Rest, these, as_first}
 use Rattle.formula.specs.declared.Sort.{Sort}
 use Rattle.formula.specs.declared.Sort.TheVariants as sort
 

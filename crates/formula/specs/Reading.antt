@@ -3,7 +3,7 @@ use Rattle.std.specs.Prelude.{ℕ, zero, suc, ◌+◌, ◌*◌, List, [], ◌∷
 use Rattle.std.proofs.Math.Option.{Option, some, none}
 use Rattle.formula.specs.Pick.{pick}
 use Rattle.formula.specs.Codes.{Code, code_at, with_number}
-use Rattle.formula.specs.NodeTable.{Row, row_of, Number, nothing, identifier, index, word, count, variables, own_length, operands, sort_of_kinds, sort_of_rest}
+use Rattle.formula.specs.NodeTable.{row_of, Number, nothing, identifier, index, word, count, variables, own_length, operands, sort_of_kinds, sort_of_rest}
 use Rattle.formula.specs.NodeFault.{Fault, other_sort, number_out, node_fault}
 use Rattle.formula.specs.Tree.{Tree, node, Trees, nil, ◌▹◌}
 use Rattle.formula.specs.Formed.{inner}

@@ -1,5 +1,5 @@
 -- Formulas as trees over the codes, and their bytes: prefix coded, all numbers little-endian.
-use Rattle.std.specs.Prelude.{ℕ, zero, suc, ◌+◌, ◌/◌, ◌%◌, List, [], ◌∷◌, ◌++◌}
+use Rattle.std.specs.Prelude.{ℕ, zero, suc, ◌/◌, ◌%◌, List, [], ◌∷◌, ◌++◌}
 use Rattle.formula.specs.Codes.{Code, con, ident, bound, lit, rel, fun, many, qu, byte_of}
 
 infixr 60 ◌▹◌

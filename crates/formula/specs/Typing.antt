@@ -1,10 +1,10 @@
 -- Types of formulas, and refusal 8: the first node in prefix order with a direct operand of a wrong type.
-use Rattle.std.specs.Prelude.{ℕ, zero, suc, ◌+◌, List, [], ◌∷◌, Bool, true, false, not, ◌&&◌, length, eqb, ltb}
+use Rattle.std.specs.Prelude.{ℕ, ◌+◌, List, [], ◌∷◌, Bool, not, ◌&&◌, length, eqb}
 use Rattle.std.proofs.Math.Option.{Option, some, none}
 use Rattle.formula.specs.Pick.{pick, or_else}
-use Rattle.formula.specs.Codes.{Code, con, ident, bound, lit, rel, fun, many, qu}
-use Rattle.formula.specs.Types.{Ty, pair, type_at, Want, among, Rest, may_all}
-use Rattle.formula.specs.NodeTable.{Row, row_of, own_length, Result, is, of_identifier, of_pair, operands}
+use Rattle.formula.specs.Codes.{Code}
+use Rattle.formula.specs.Types.{Ty, pair, type_at, among, may_all}
+use Rattle.formula.specs.NodeTable.{row_of, own_length, Result, is, of_identifier, of_pair, operands}
 use Rattle.formula.specs.NodeFault.{number_out}
 use Rattle.formula.specs.Tree.{Tree, node, Trees, nil, ◌▹◌, size, number_of, encode}
 use Rattle.formula.specs.Formed.{inner}

@@ -1,9 +1,9 @@
 -- The table as the code holds it: one number for each code, a byte for each of its eight columns.
-use Rattle.std.specs.Prelude.{ℕ, zero, suc, ◌+◌, ◌*◌, ◌/◌, ◌%◌, ◌^◌, List, [], ◌∷◌, map, Bool, true, false, length, get_or, ltb, leb, eqb}
+use Rattle.std.specs.Prelude.{ℕ, ◌+◌, ◌*◌, ◌/◌, ◌%◌, ◌^◌, List, [], ◌∷◌, map, length, get_or, ltb, eqb}
 use Rattle.std.proofs.Math.Option.{Option, some, none}
 use Rattle.formula.specs.Pick.{pick}
 use Rattle.formula.specs.Codes.{Code, codes}
-use Rattle.formula.specs.Types.{Base, prop, int, boo, set, nats, nats1, Kind, one, pairs, kind_of, Rest, these, as_first}
+use Rattle.formula.specs.Types.{prop, int, boo, set, nats, nats1, Kind, one, pairs, kind_of, Rest, these, as_first}
 use Rattle.formula.specs.NodeTable.{Row, row_of, Number, nothing, identifier, index, word, count, variables, width, Arity, fixed, counted, Result, is, of_identifier, of_pair, sort_of}
 use Rattle.formula.specs.declared.Sort.{Sort}
 use Rattle.formula.specs.declared.Sort.TheVariants as sorts

@@ -2,9 +2,6 @@ use Rattle.formula.proofs.BytesLaws.{nodes}
 use borrow.Author.Rules.{rules}
 use Rattle.formula.proofs.bytes.byte_at.Statement.{statement}
 use Rattle.formula.proofs.bytes.byte_at.Tie as tie
-use Rattle.formula.proofs.bytes.byte_at.Reads as reads
-use Rattle.formula.proofs.bytes.byte_at.Lts as lts
-use Rattle.formula.proofs.table.wide.Reads as wide-reads
 
 pub byte_at_spec : {M : Type 1} → statement M
 byte_at_spec = tie.close (tie.spec (λ c. search rules) (λ c κs. search rules) (λ c. search (rules, nodes) depth 7) (λ c. search (rules, nodes) depth 7))

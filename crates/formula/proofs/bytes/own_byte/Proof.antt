@@ -2,10 +2,6 @@ use Rattle.formula.proofs.BytesLaws.{nodes}
 use borrow.Author.Rules.{rules}
 use Rattle.formula.proofs.bytes.own_byte.Statement.{statement}
 use Rattle.formula.proofs.bytes.own_byte.Tie as tie
-use Rattle.formula.proofs.bytes.own_byte.Reads as reads
-use Rattle.formula.proofs.bytes.own_byte.Lts as lts
-use Rattle.formula.proofs.table.field_of.Reads as field-of-reads
-use Rattle.formula.proofs.bytes.small_at.Reads as small-at-reads
 
 pub own_byte_spec : {M : Type 1} → statement M
 own_byte_spec = tie.close (tie.spec (λ c κs. search rules) (λ c κs. search rules) (λ c. search (rules, nodes) depth 7) (λ c. search (rules, nodes) depth 7))

@@ -2,10 +2,6 @@ use Rattle.formula.proofs.TableLaws.{columns}
 use borrow.Author.Rules.{rules}
 use Rattle.formula.proofs.table.count_of.Statement.{statement}
 use Rattle.formula.proofs.table.count_of.Tie as tie
-use Rattle.formula.proofs.table.count_of.Reads as reads
-use Rattle.formula.proofs.table.count_of.Lts as lts
-use Rattle.formula.proofs.table.field_of.Reads as field-of-reads
-use Rattle.formula.proofs.table.wide.Reads as wide-reads
 
 pub count_of_spec : {M : Type 1} → statement M
 count_of_spec = tie.close (tie.spec (λ c κs. search rules) (λ c κs. search rules) (λ c. search (rules, columns) depth 7) (λ c. search (rules, columns) depth 7))

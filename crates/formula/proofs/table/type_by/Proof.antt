@@ -2,11 +2,6 @@ use Rattle.formula.proofs.TableLaws.{columns}
 use borrow.Author.Rules.{rules}
 use Rattle.formula.proofs.table.type_by.Statement.{statement}
 use Rattle.formula.proofs.table.type_by.Tie as tie
-use Rattle.formula.proofs.table.type_by.Reads as reads
-use Rattle.formula.proofs.table.type_by.Lts as lts
-use Rattle.formula.proofs.table.field_of.Reads as field-of-reads
-use Rattle.formula.proofs.table.ident_type.Reads as ident-type-reads
-use Rattle.formula.proofs.table.wide.Reads as wide-reads
 
 pub type_by_spec : {M : Type 1} → statement M
 type_by_spec =
