@@ -5,8 +5,11 @@ mod files;
 mod requests;
 mod words;
 
+use std::env::{Env, FillError};
+use std::rt::Runtime;
+
 // Which act a word names.
-#[derive(Drop)]
+#[derive(Clone, Copy)]
 pub enum Act {
     Read,
     Select,
@@ -71,37 +74,55 @@ fn arguments(act: Act) -> usize {
     }
 }
 
-fn run(act: Act) {
+fn run(rt: &impl Runtime, act: Act) {
     match act {
-        Act::Read => requests::read(),
-        Act::Select => requests::act(0),
-        Act::Deselect => requests::act(1),
-        Act::Hide => requests::act(2),
-        Act::Show => requests::act(3),
-        Act::Modify => requests::act(5),
-        Act::Forward => requests::act(4),
-        Act::Rewrite => requests::act(6),
-        Act::Help => words::help(),
-        Act::Unknown => words::help(),
+        Act::Read => requests::read(rt),
+        Act::Select => requests::act(rt, 0),
+        Act::Deselect => requests::act(rt, 1),
+        Act::Hide => requests::act(rt, 2),
+        Act::Show => requests::act(rt, 3),
+        Act::Modify => requests::act(rt, 5),
+        Act::Forward => requests::act(rt, 4),
+        Act::Rewrite => requests::act(rt, 6),
+        Act::Help => words::help(rt),
+        Act::Unknown => words::help(rt),
     }
 }
 
-fn main() {
-    let mut word = io::buffer();
-    let n = os::arg(1, &mut word);
-    if os::errno() != 0 {
-        words::misuse(b"no act named; `cofferdrift help` lists them");
-        return;
+// Whether the program was started with an argument i.
+fn is_given(rt: &impl Env, i: usize) -> bool {
+    let mut start = [0u8; 1];
+    !matches!(rt.arg(i, &mut start), Err(FillError::NotPresent))
+}
+
+// How many arguments the program was started with, its own name among them; 8 stands for more than any act takes.
+fn arg_count(rt: &impl Env) -> usize {
+    for i in 0..8 {
+        if !is_given(rt, i) {
+            return i;
+        }
     }
+    8
+}
+
+fn main(rt: HostRuntime) {
+    let mut word = files::word_room();
+    let Ok(n) = rt.arg(1, &mut word) else {
+        words::misuse(&rt, b"no act named; `cofferdrift help` lists them");
+        return;
+    };
     let act = act_of(&word[..n]);
     let wanted = arguments(act);
     if wanted == 0 {
-        words::misuse(b"unknown act; `cofferdrift help` lists them");
+        words::misuse(&rt, b"unknown act; `cofferdrift help` lists them");
         return;
     }
-    if os::arg_count() != wanted {
-        words::misuse(b"wrong number of arguments; `cofferdrift help` lists them");
+    if arg_count(&rt) != wanted {
+        words::misuse(
+            &rt,
+            b"wrong number of arguments; `cofferdrift help` lists them",
+        );
         return;
     }
-    run(act);
+    run(&rt, act);
 }

@@ -9,7 +9,7 @@ use reader::reader::read_formula;
 use sequent::Counted;
 
 // An answer's words: `refuse` or `ok`, up to three numbers, and the digits of the bytes written; the place of the last word.
-#[derive(Drop)]
+#[derive(Clone, Copy)]
 pub struct Reply {
     pub refused: bool,
     pub a: usize,

@@ -1,6 +1,5 @@
 // What was answered, held to the line's own answer, byte by byte.
-ghost use Rattle.std.specs.Prelude.{◌<◌};
-ghost use Rattle.io.specs.Counts.{IsPrefixLen};
+ghost use Rattle.std.specs.Prelude.{◌<◌, ◌≤◌, length};
 
 use super::answers::{Reply, answer, written};
 use super::questions::{ACTS, lend_all};
@@ -36,9 +35,9 @@ fn is_said(answer: &[u8], r: Reply) -> bool {
         return false;
     }
     if r.refused {
-        return check::same(word(answer, 0), b"refuse");
+        return word(answer, 0) == b"refuse".as_slice();
     }
-    check::same(word(answer, 0), b"ok")
+    word(answer, 0) == b"ok".as_slice()
 }
 
 // The same, with the bytes written.
@@ -92,12 +91,9 @@ fn kept(out: &mut [u8], written: usize) -> usize {
 
 // n, or the buffer's length where that is less.
 fn at_most(n: usize, buf: &[u8]) -> usize
-    ensures { IsPrefixLen result buf.now }
+    ensures { result ≤ length buf.now }
 {
-    if n < 9223372036854775808 {
-        return io::count(n as isize, buf);
-    }
-    io::count(0, buf)
+    n.min(buf.len())
 }
 
 // Asks with `room` bytes of a buffer that has the pattern.
@@ -145,7 +141,7 @@ fn lent(act: usize) -> usize
 
 // The room that is named before the arrow, if the act has one; NO_NUMBER where the line is no question.
 fn room_of(rest: &[u8], rooms: usize) -> usize {
-    if !check::same(word(rest, rooms), b"->") {
+    if word(rest, rooms) != b"->".as_slice() {
         return NO_NUMBER;
     }
     if rooms == 0 {

@@ -18,7 +18,7 @@ pub fn act_of(line: &[u8]) -> usize {
 fn place_of(names: &[u8], name: &[u8]) -> usize {
     let mut i = 0;
     while i < ACTS {
-        if check::same(word(names, i), name) {
+        if word(names, i) == name {
             return i;
         }
         i += 1;

@@ -3,7 +3,6 @@ use super::judge::{RIGHT, WAITS, verdict};
 use super::questions::{NAMES, act_of};
 use super::text::{part, word};
 use formula::bytes::small_at;
-use libc::STDOUT_FILENO;
 
 // A row for each name, with a cell for each of these but the last, and behind the rows a cell for the number of lines. What
 // stands from `missed` on is wrong.
@@ -23,26 +22,35 @@ fn count(counts: &mut [u64], i: usize) -> u64 {
 }
 
 // A line is counted in its cell, in the last row, and among all lines; one that is not as it should be is said.
-pub fn settle(counts: &mut [u64], cell: usize) {
+pub fn settle(rt: &impl Print, counts: &mut [u64], cell: usize) {
     count(counts, cell);
     count(counts, 126 + cell % 9);
-    say_wrong(count(counts, 135), cell % 9);
+    say_wrong(rt, count(counts, 135), cell % 9);
 }
 
-fn say_wrong(number: u64, column: usize) {
+// Writes to standard output. A write that fails ends nothing: what else is said goes on.
+pub fn say(rt: &impl Print, text: &[u8]) {
+    let _ = rt.write_all(text);
+}
+
+fn say_number(rt: &impl Print, n: u64) {
+    let _ = rt.print(n);
+}
+
+fn say_wrong(rt: &impl Print, number: u64, column: usize) {
     if column < 4 {
         return;
     }
-    io::write_all(STDOUT_FILENO, b"line ");
-    io::print_decimal(STDOUT_FILENO, number);
-    say_column(column);
-    io::write_all(STDOUT_FILENO, b"\n");
+    say(rt, b"line ");
+    say_number(rt, number);
+    say_column(rt, column);
+    say(rt, b"\n");
 }
 
-fn say_column(column: usize) {
+fn say_column(rt: &impl Print, column: usize) {
     let columns = COLUMNS;
-    io::write_all(STDOUT_FILENO, b" ");
-    io::write_all(STDOUT_FILENO, word(&columns, column));
+    say(rt, b" ");
+    say(rt, word(&columns, column));
 }
 
 // What became of a line, by the verdict. One that is planted must be found wrong.
@@ -67,23 +75,23 @@ pub fn cell_of(line: &[u8], work: &mut [u8], out: &mut [u8]) -> usize {
 }
 
 // A count that is not 0; the row's name is before the first.
-fn say_cell(i: usize, n: u64) {
+fn say_cell(rt: &impl Print, i: usize, n: u64) {
     if i % 9 == 0 {
         let names = NAMES;
-        io::write_all(STDOUT_FILENO, b"\n");
-        io::write_all(STDOUT_FILENO, word(&names, i / 9));
+        say(rt, b"\n");
+        say(rt, word(&names, i / 9));
     }
     if 0 < n {
-        say_column(i % 9 + i / 135 * 9);
-        io::write_all(STDOUT_FILENO, b"=");
-        io::print_decimal(STDOUT_FILENO, n);
+        say_column(rt, i % 9 + i / 135 * 9);
+        say(rt, b"=");
+        say_number(rt, n);
     }
 }
 
-pub fn say_tally(counts: &[u64]) {
+pub fn say_tally(rt: &impl Print, counts: &[u64]) {
     let mut i = 0;
     while i < counts.len() {
-        say_cell(i, counts[i]);
+        say_cell(rt, i, counts[i]);
         i += 1;
     }
 }
