@@ -113,7 +113,14 @@ module _ (Γ : List Ty) where
 
   -- ---- keys
   same_some : (q : Rel) (c d : Cmp) → is_some (ordered q c) ≡ is_some (ordered q d)
-  same_some q c d = elim q [ C.eq ↦ refl | C.lt ↦ refl | C.le ↦ refl | C.gt ↦ refl | C.ge ↦ refl | C.mem ↦ refl | C.sub ↦ refl | C.sube ↦ refl ]
+  same_some C.eq c d = refl
+  same_some C.lt c d = refl
+  same_some C.le c d = refl
+  same_some C.gt c d = refl
+  same_some C.ge c d = refl
+  same_some C.mem c d = refl
+  same_some C.sub c d = refl
+  same_some C.sube c d = refl
 
   module _ (l r : Tree) (h : Bool) (e : type_of Γ 0 l ≡ some (base T.int)) (f : h ≡ true → type_of Γ 0 r ≡ some (base T.int)) where
     number_side : (a : Side) → number? h a ≡ true → type_of Γ 0 (side l r a) ≡ some (base T.int)
