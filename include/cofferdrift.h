@@ -1,4 +1,4 @@
-/* Cofferdrift for C: link the archive that `rt staticlib c_api` writes.
+/* Cofferdrift for C: link the archive crates/c_api/out/libc_api.a, which `rt lib` in crates/c_api writes.
  *
  * Bytes are lent as a pointer and a length and are only read. No pointer is null, also where the length is 0.
  * No function keeps a pointer, allocates, or asks anything of the bytes: whatever they are, it returns.

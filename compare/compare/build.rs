@@ -8,7 +8,7 @@ use std::path::{Path, PathBuf};
 use std::{env, fs};
 
 /// From the crate's folder.
-const DEFAULT_LIBRARY: &str = "../../target/staticlib/libc_api.a";
+const DEFAULT_LIBRARY: &str = "../../crates/c_api/out/libc_api.a";
 
 fn main() {
     println!("cargo::rerun-if-changed=build.rs");

@@ -16,7 +16,7 @@ pub fn missing() -> Option<String> {
     (!cfg!(ours_present)).then(|| {
         let asked = env!("COFFERDRIFT_LIB_ASKED");
         format!(
-            "the proved library was not found at {asked}; make it with `rt staticlib c_api` and build again"
+            "the proved library was not found at {asked}; make it with `rt lib` in crates/c_api and build again"
         )
     })
 }

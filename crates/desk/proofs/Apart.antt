@@ -1,5 +1,4 @@
 -- Hypotheses none of which is equal to another: what is among them, and one more.
-use Prim.Native.Nat.{◌+◌}
 use mathlib.Core.Path.{◌≡◌, refl, sym, ◌∙◌}
 use mathlib.Core.Bool.{Bool, true, false, ◌||◌}
 use mathlib.Core.Option.{some}

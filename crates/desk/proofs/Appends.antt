@@ -15,7 +15,7 @@ use Rattle.desk.specs.Mirror.Masks.{put_bit, selects, with_flag}
 use Rattle.desk.specs.Mirror.Bytes.{grown}
 use Rattle.desk.specs.declared.View.{View}
 use Rattle.desk.specs.declared.Appended.TheVariants as appended
-use Rattle.desk.proofs.MaskLaws.{put_new, hidden_from, selected_from, hidden_is, selected_is}
+use Rattle.desk.proofs.MaskLaws.{put_new, hidden_from, selected_from}
 use Rattle.desk.proofs.Laid.{sets_split, same_part, stand_there}
 use Rattle.formula.proofs.RangeLaws.{range_slice, range_count}
 

@@ -11,7 +11,7 @@ use lib.Dec.{ltb}
 use borrow.Author.Tests.{le-ltb, lt-ltb, lt-leb, ltb-true, ltb-false}
 use Rattle.formula.specs.Pick.{pick}
 use Rattle.formula.specs.Tree.{Tree, encode}
-use Rattle.desk.specs.Sequent.{Hypothesis, present, hypothesis}
+use Rattle.desk.specs.Sequent.{Hypothesis, present}
 use Rattle.formula.specs.Equal.{same}
 use Rattle.formula.specs.Equal.{Range}
 use Rattle.desk.specs.File.{hypotheses_bytes}

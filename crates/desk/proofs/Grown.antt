@@ -1,5 +1,5 @@
 -- Hypotheses that grow: flags may change and formulas may come after the old ones, but none is lost, moved or doubled.
-use Prim.Native.Nat.{◌+◌, ◌≤◌}
+use Prim.Native.Nat.{◌≤◌}
 use mathlib.Core.Path.{◌≡◌, refl, sym, ap, ◌∙◌}
 use mathlib.Core.Bool.{Bool, true, false}
 use mathlib.Core.List.{List, [], ◌∷◌, ◌++◌, append_assoc, append-nil, nil≢cons}

@@ -1,5 +1,5 @@
 -- What the desk holds depends on no more than its bytes up to the end of the hypotheses.
-use Prim.Native.Nat.{ℕ, zero, suc, ◌+◌, ◌-◌, ◌<◌, ◌≤◌}
+use Prim.Native.Nat.{ℕ, zero, suc, ◌+◌, ◌<◌, ◌≤◌}
 use mathlib.Core.Path.{◌≡◌, refl, sym, ap, ◌∙◌}
 use mathlib.Core.List.{List, [], ◌∷◌, ◌++◌, append_assoc}
 use native.Mathlib.Nat.{zero-add}
@@ -12,7 +12,6 @@ use Rattle.desk.specs.File.{hypotheses_bytes}
 use Rattle.desk.specs.Mirror.Desk.{HypothesesStand, Holds}
 use Rattle.desk.specs.Mirror.Bytes.{LaidIs}
 use Rattle.desk.specs.declared.View.{View}
-use Rattle.desk.proofs.MaskLaws.{hidden_is, selected_is}
 
 -- ---- parts of a list
 part_of : (p n e : ℕ) (d : List ℕ) → p + n ≤ e → take n (drop p (take e d)) ≡ take n (drop p d)

@@ -1,5 +1,5 @@
 -- The masks of the flags: one more hypothesis sets one more bit, and their ones are the counts.
-use Prim.Native.Nat.{ℕ, suc, ◌+◌, ◌-◌, ◌*◌, ◌^◌, ◌<◌, ◌≤◌}
+use Prim.Native.Nat.{ℕ, suc, ◌+◌, ◌*◌, ◌^◌, ◌<◌, ◌≤◌}
 use mathlib.Core.Path.{◌≡◌, refl, sym, ap, ◌∙◌}
 use mathlib.Core.Bool.{Bool, true, false}
 use mathlib.Core.List.{List, [], ◌∷◌, ◌++◌}
@@ -10,8 +10,7 @@ use lib.Bits.{bit_or, or_shifted_r}
 use lib.Count.{ones, ones_in, ones_cat}
 use borrow.Author.Tests.{le-ltb}
 use Rattle.formula.specs.Pick.{pick}
-use Rattle.refusal.specs.declared.Said.{Said}
-use Rattle.desk.specs.Sequent.{Flag, plain, hidden, selected, Hypothesis, is_hidden, is_visible, count_of, hypothesis}
+use Rattle.desk.specs.Sequent.{Flag, plain, hidden, selected, Hypothesis, is_hidden, is_visible, count_of}
 use Rattle.desk.specs.Mirror.Masks.{with_bit, visible_mask}
 use Rattle.desk.specs.Mirror.Desk.{mask_of}
 

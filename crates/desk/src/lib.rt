@@ -6,7 +6,7 @@ pub mod find;
 pub mod mask;
 
 // A sequent on the desk: how many identifiers and hypotheses, where the hypotheses end, and the flags as masks over the 64 hypotheses.
-#[derive(Drop)]
+#[derive(Clone, Copy)]
 pub struct View {
     pub identifiers: usize,
     pub hypotheses: usize,

@@ -7,7 +7,7 @@ use native.Mathlib.Omega.{arith}
 use lib.ListN.{length, get_or, length-append}
 use Rattle.formula.specs.Tree.{Tree}
 use Rattle.formula.specs.Equal.{Range}
-use Rattle.desk.specs.Sequent.{hidden, selected, Hypothesis, is_visible, flag_in, holds, hypothesis}
+use Rattle.desk.specs.Sequent.{Hypothesis, is_visible, flag_in, holds, hypothesis}
 use Rattle.desk.specs.Hypotheses.{select, inferred_flag, infer_one, infer_all, reselects}
 use Rattle.desk.specs.Mirror.Desk.{Holds, index_of, flag_from, AppendIs}
 use Rattle.desk.specs.Mirror.Moves.{Listing, Extends, TooMuch}

@@ -6,7 +6,7 @@ pub mod infer;
 use desk::View;
 
 // What the sources of an inference say: each is there, some is selected, all are hidden.
-#[derive(Drop)]
+#[derive(Clone, Copy)]
 pub struct Sources {
     pub there: bool,
     pub selected: bool,

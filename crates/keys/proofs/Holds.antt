@@ -31,11 +31,11 @@ use Rattle.keys.proofs.Worlds.{fine, fine_value, compared, ordered, number?, int
 
 -- ---- a property of the entry of each row whose condition is met
 module _ (P : Entry → Type 0) (Γ : List Ty) (q : Relation) (ok : Marked → Bool)
-    (H : (m : Marked) → ok m ≡ true → meets Γ q.left q.right m.condition ≡ true → P (record { key = key_tree q.left q.right m.key_is_law; value = m.value })) where
+    (H : (m : Marked) → ok m ≡ true → meets Γ q.left q.right m.condition ≡ true → P (record { key = key_tree q.left q.right m.key_is; value = m.value })) where
   row_has : (m : Marked) (os : List (Option Entry)) → ok m ≡ true → Each P (met_entries os) → Each P (met_entries (entry_of Γ q m ∷ os))
   row_has m os e h = go (meets Γ q.left q.right m.condition) refl
     where
-      go : (b : Bool) → meets Γ q.left q.right m.condition ≡ b → Each P (met_entries (pick b (some (record { key = key_tree q.left q.right m.key_is_law; value = m.value })) none ∷ os))
+      go : (b : Bool) → meets Γ q.left q.right m.condition ≡ b → Each P (met_entries (pick b (some (record { key = key_tree q.left q.right m.key_is; value = m.value })) none ∷ os))
       go true p = (H m e p, h)
       go false p = h
 
@@ -48,7 +48,7 @@ module _ {types : List ℕ} (ν : Valuation types) where
   pub rows_hold : (q : Relation) (met : Condition → Bool) (value : Key → Option Bool) → ((c : Condition) → meets (types_of types) q.left q.right c ≡ true → met c ≡ true)
       → ((k : Key) (v : Bool) → value k ≡ some v → eval ν (key_tree q.left q.right k) [] ≡ some (truth v)) → (ms : List Marked) → every (fine met value) ms ≡ true
       → AllHold ν (met_entries (map (entry_of (types_of types) q) ms))
-  rows_hold q met value M W = rows_have _ (types_of types) q (fine met value) (λ m e p. W m.key_is_law m.value (fine_value met value m e (M m.condition p)))
+  rows_hold q met value M W = rows_have _ (types_of types) q (fine met value) (λ m e p. W m.key_is m.value (fine_value met value m e (M m.condition p)))
 
   -- ---- numbers
   module _ (a b : Tree) (x y : ℤ) (e : eval ν a [] ≡ some (int x)) (f : eval ν b [] ≡ some (int y)) where

@@ -12,7 +12,6 @@ use mir.Syntax.{w64}
 use mir.Val.{Fits}
 use Rattle.formula.specs.Mirror.PackedTable.{field}
 use Rattle.formula.specs.Mirror.Bytes.{byte_at}
-use Rattle.formula.specs.Mirror.Ranges.{same_at}
 use Rattle.keys.specs.Mirror.Stripping.{strip_from, strip_at}
 use Rattle.keys.specs.Mirror.PackedKeys.{key_table, key_at}
 use Rattle.formula.specs.Mirror.Ranges.{same_range}

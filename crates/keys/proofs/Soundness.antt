@@ -33,7 +33,7 @@ use Rattle.meaning.specs.Defined.{◌>>=◌}
 use Rattle.meaning.specs.Valuation.{Valuation}
 use Rattle.meaning.specs.Meaning.{eval}
 use Rattle.meaning.proofs.Lists.{some_inj}
-use Rattle.meaning.proofs.Whole.{Cmp, same, cmp_z, is_eq, is_lt, is_le, swap, cmp_swap}
+use Rattle.meaning.proofs.Whole.{Cmp, cmp_z, is_eq, is_lt, is_le, swap, cmp_swap}
 use Rattle.meaning.proofs.Literals.{literal_low, literal_high}
 use Rattle.meaning.proofs.Operands.{read_int, is_int, read_one, reads_set, is_set, kind_data}
 use Rattle.meaning.proofs.Has.{has_value}

@@ -35,21 +35,21 @@ right_of (in_nat1 a) = nat1_number
 
 abbrev packed : Marked → Bool
 packed m =
-    eqb (field (pack_row m) 0) (code_of m.key_is_law) && (eqb (field (pack_row m) 8) (left_of m.key_is_law) && (eqb (field (pack_row m) 16) (right_of m.key_is_law)
+    eqb (field (pack_row m) 0) (code_of m.key_is) && (eqb (field (pack_row m) 8) (left_of m.key_is) && (eqb (field (pack_row m) 16) (right_of m.key_is)
     && (eqb (field (pack_row m) 24) (condition_number m.condition) && agree (eqb (field (pack_row m) 32) 1) m.value)))
 
 pub record Columns (m : Marked) : Type 0 where
-  pub code_is : field (pack_row m) 0 ≡ code_of m.key_is_law
-  pub left_is : field (pack_row m) 8 ≡ left_of m.key_is_law
-  pub right_is : field (pack_row m) 16 ≡ right_of m.key_is_law
+  pub code_is : field (pack_row m) 0 ≡ code_of m.key_is
+  pub left_is : field (pack_row m) 8 ≡ left_of m.key_is
+  pub right_is : field (pack_row m) 16 ≡ right_of m.key_is
   pub condition_is : field (pack_row m) 24 ≡ condition_number m.condition
   pub value_is : eqb (field (pack_row m) 32) 1 ≡ m.value
 
 columns : (m : Marked) → packed m ≡ true → Columns m
 columns m e =
-    let e₁ = and_right (eqb (field (pack_row m) 0) (code_of m.key_is_law)) _ e in
-    let e₂ = and_right (eqb (field (pack_row m) 8) (left_of m.key_is_law)) _ e₁ in
-    let e₃ = and_right (eqb (field (pack_row m) 16) (right_of m.key_is_law)) _ e₂ in
+    let e₁ = and_right (eqb (field (pack_row m) 0) (code_of m.key_is)) _ e in
+    let e₂ = and_right (eqb (field (pack_row m) 8) (left_of m.key_is)) _ e₁ in
+    let e₃ = and_right (eqb (field (pack_row m) 16) (right_of m.key_is)) _ e₂ in
     let e₄ = and_right (eqb (field (pack_row m) 24) (condition_number m.condition)) _ e₃ in
     record {
       code_is = eqb-true _ _ (and_left _ _ e);

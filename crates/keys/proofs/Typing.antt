@@ -36,7 +36,7 @@ use Rattle.keys.proofs.Holds.{rows_have}
 
 -- ---- rows whose condition may hold have keys of these sides: one computed test
 abbrev sorted : (Condition → Bool) → (Key → Option Bool) → Marked → Bool
-sorted met value m = implies (met m.condition) (is_some (value m.key_is_law))
+sorted met value m = implies (met m.condition) (is_some (value m.key_is))
 
 abbrev number_meets : Condition → Bool
 number_meets K.always = true
@@ -86,7 +86,7 @@ module _ (Γ : List Ty) where
   -- rows of which the keys are typed
   typed_rows : (q : Relation) (met? : Condition → Bool) (value : Key → Option Bool) → ((c : Condition) → meets Γ q.left q.right c ≡ true → met? c ≡ true)
       → ((k : Key) → is_some (value k) ≡ true → Predicate (key_tree q.left q.right k)) → (ms : List Marked) → every (sorted met? value) ms ≡ true → AllTyped Γ (met_entries (map (entry_of Γ q) ms))
-  typed_rows q met? value M W = rows_have _ Γ q (sorted met? value) (λ m e p. W m.key_is_law (met (met? m.condition) _ e (M m.condition p)))
+  typed_rows q met? value M W = rows_have _ Γ q (sorted met? value) (λ m e p. W m.key_is (met (met? m.condition) _ e (M m.condition p)))
 
   -- ---- relations of numbers, and of sets
   number_relation : (q : Rel) (a b : Tree) → type_of Γ 0 a ≡ some (base T.int) → type_of Γ 0 b ≡ some (base T.int) → is_some (number_key K.equal (key q L R)) ≡ true → Predicate (node (rel q) (a ▹ b ▹ nil))
@@ -113,7 +113,14 @@ module _ (Γ : List Ty) where
 
   -- ---- keys
   same_some : (q : Rel) (c d : Cmp) → is_some (ordered q c) ≡ is_some (ordered q d)
-  same_some q c d = elim q [ C.eq ↦ refl | C.lt ↦ refl | C.le ↦ refl | C.gt ↦ refl | C.ge ↦ refl | C.mem ↦ refl | C.sub ↦ refl | C.sube ↦ refl ]
+  same_some C.eq c d = refl
+  same_some C.lt c d = refl
+  same_some C.le c d = refl
+  same_some C.gt c d = refl
+  same_some C.ge c d = refl
+  same_some C.mem c d = refl
+  same_some C.sub c d = refl
+  same_some C.sube c d = refl
 
   module _ (l r : Tree) (h : Bool) (e : type_of Γ 0 l ≡ some (base T.int)) (f : h ≡ true → type_of Γ 0 r ≡ some (base T.int)) where
     number_side : (a : Side) → number? h a ≡ true → type_of Γ 0 (side l r a) ≡ some (base T.int)

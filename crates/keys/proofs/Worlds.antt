@@ -24,10 +24,10 @@ is_val (some x) b = agree x b
 
 -- a row whose condition may hold has a key with the row's value
 abbrev pub fine : (Condition → Bool) → (Key → Option Bool) → Marked → Bool
-fine met value m = implies (met m.condition) (is_val (value m.key_is_law) m.value)
+fine met value m = implies (met m.condition) (is_val (value m.key_is) m.value)
 
-pub fine_value : (met : Condition → Bool) (value : Key → Option Bool) (m : Marked) → fine met value m ≡ true → met m.condition ≡ true → value m.key_is_law ≡ some m.value
-fine_value met value m e h = go (value m.key_is_law) (ap (λ (b : Bool). implies b (is_val (value m.key_is_law) m.value)) (sym h) ∙ e)
+pub fine_value : (met : Condition → Bool) (value : Key → Option Bool) (m : Marked) → fine met value m ≡ true → met m.condition ≡ true → value m.key_is ≡ some m.value
+fine_value met value m e h = go (value m.key_is) (ap (λ (b : Bool). implies b (is_val (value m.key_is) m.value)) (sym h) ∙ e)
   where
     go : (o : Option Bool) → is_val o m.value ≡ true → o ≡ some m.value
     go none e = never e

@@ -142,13 +142,13 @@ implied subset_equal = given always (no (L ⊏ R) ∷ no (L ≐ R) ∷ no (R ≐
 -- ---- a source's rows in order: keys with their values
 pub record Marked : Type 0 where
   pub condition : Condition
-  pub key_is_law : Key
+  pub key_is : Key
   pub value : Bool
 
 -- "A key under ¬ loses it and its value flips"
 abbrev pub mark : Bool → Condition → Form → Marked
-mark b c (is k) = record { condition = c; key_is_law = k; value = b }
-mark b c (is_not k) = record { condition = c; key_is_law = k; value = not b }
+mark b c (is k) = record { condition = c; key_is = k; value = b }
+mark b c (is_not k) = record { condition = c; key_is = k; value = not b }
 
 abbrev pub marked : Bool → List Row → List Marked
 marked b = map (λ r. mark b r.condition r.form)

@@ -89,7 +89,7 @@ pub record Entry : Type 0 where
 
 -- the entry of a row, none where the row's condition is not met
 abbrev pub entry_of : List Ty → Relation → Marked → Option Entry
-entry_of Γ q m = pick (meets Γ q.left q.right m.condition) (some (record { key = key_tree q.left q.right m.key_is_law; value = m.value })) none
+entry_of Γ q m = pick (meets Γ q.left q.right m.condition) (some (record { key = key_tree q.left q.right m.key_is; value = m.value })) none
 
 -- "Literals never are keys": ⊤, ⊥
 abbrev pub literal? : Tree → Bool

@@ -7,7 +7,7 @@ pub mod strip;
 pub mod table;
 
 // Some bytes of a buffer.
-#[derive(Drop)]
+#[derive(Clone, Copy)]
 pub struct Part {
     pub at: usize,
     pub end: usize,
@@ -21,7 +21,7 @@ pub struct Bare {
 }
 
 // What the conditions of rows ask: the kind of the right side, as a bit, and which literals the sides are.
-#[derive(Drop)]
+#[derive(Clone, Copy)]
 pub struct Facts {
     pub kind: usize,
     pub left: usize,
@@ -29,7 +29,7 @@ pub struct Facts {
 }
 
 // A source: its rows in the table, where it stands without its ¬, its sides, and what its conditions ask.
-#[derive(Drop)]
+#[derive(Clone, Copy)]
 pub struct Source {
     pub first: usize,
     pub count: usize,
@@ -40,7 +40,7 @@ pub struct Source {
 }
 
 // A predicate to be looked for, and its code.
-#[derive(Drop)]
+#[derive(Clone, Copy)]
 pub struct Asked {
     pub code: usize,
     pub at: usize,

@@ -125,33 +125,68 @@ same_alike none p e = subst (AlikeO none) e neither
 same_alike (some v) p e = subst (AlikeO (some v)) e (both (alike_refl v))
 
 truth_same : (v w : Val) → Alike v w → as_truth v ≡ as_truth w
-truth_same v w r =
-    elim r [ truths ↦ refl | ints ↦ refl | boos ↦ refl | sets h ↦ refl | naturals ↦ refl | positives ↦ refl | pairs a b ↦ refl ]
+truth_same v w truths = refl
+truth_same v w ints = refl
+truth_same v w boos = refl
+truth_same v w (sets h) = refl
+truth_same v w naturals = refl
+truth_same v w positives = refl
+truth_same v w (pairs a b) = refl
 
 int_same : (v w : Val) → Alike v w → as_int v ≡ as_int w
-int_same v w r =
-    elim r [ truths ↦ refl | ints ↦ refl | boos ↦ refl | sets h ↦ refl | naturals ↦ refl | positives ↦ refl | pairs a b ↦ refl ]
+int_same v w truths = refl
+int_same v w ints = refl
+int_same v w boos = refl
+int_same v w (sets h) = refl
+int_same v w naturals = refl
+int_same v w positives = refl
+int_same v w (pairs a b) = refl
 
 boo_same : (v w : Val) → Alike v w → as_boo v ≡ as_boo w
-boo_same v w r =
-    elim r [ truths ↦ refl | ints ↦ refl | boos ↦ refl | sets h ↦ refl | naturals ↦ refl | positives ↦ refl | pairs a b ↦ refl ]
+boo_same v w truths = refl
+boo_same v w ints = refl
+boo_same v w boos = refl
+boo_same v w (sets h) = refl
+boo_same v w naturals = refl
+boo_same v w positives = refl
+boo_same v w (pairs a b) = refl
 
 set_both : (v w : Val) → Alike v w → Both SameMembers (as_set v) (as_set w)
-set_both v w r =
-    elim r [ truths ↦ neither | ints ↦ neither | boos ↦ neither | sets h ↦ both h | naturals ↦ neither | positives ↦ neither | pairs a b ↦ neither ]
+set_both v w truths = neither
+set_both v w ints = neither
+set_both v w boos = neither
+set_both v w (sets h) = both h
+set_both v w naturals = neither
+set_both v w positives = neither
+set_both v w (pairs a b) = neither
 
 pair_both : (v w : Val) → Alike v w → Both (λ p q. Alike p.0 q.0 × Alike p.1 q.1) (as_pair v) (as_pair w)
-pair_both v w r =
-    elim r [ truths ↦ neither | ints ↦ neither | boos ↦ neither | sets h ↦ neither | naturals ↦ neither | positives ↦ neither | pairs a b ↦ both (a, b) ]
+pair_both v w truths = neither
+pair_both v w ints = neither
+pair_both v w boos = neither
+pair_both v w (sets h) = neither
+pair_both v w naturals = neither
+pair_both v w positives = neither
+pair_both v w (pairs a b) = both (a, b)
 
 data_both : (v w : Val) → Alike v w → AlikeO (as_data v) (as_data w)
-data_both v w r =
-    elim r [ truths ↦ neither | ints ↦ both ints | boos ↦ both boos | sets h ↦ both (sets h) | naturals ↦ neither | positives ↦ neither | pairs a b ↦ both (pairs a b) ]
+data_both v w truths = neither
+data_both v w ints = both ints
+data_both v w boos = both boos
+data_both v w (sets h) = both (sets h)
+data_both v w naturals = neither
+data_both v w positives = neither
+data_both v w (pairs a b) = both (pairs a b)
 
 -- ---- the tests
 member_same : (x : ℤ) (v w : Val) → Alike v w → member_of x v ≡ member_of x w
-member_same x v w r =
-    elim r [ truths ↦ refl | ints ↦ refl | boos ↦ refl | sets h ↦ ap some (h x) | naturals ↦ refl | positives ↦ refl | pairs a b ↦ refl ]
+member_same x v w truths = refl
+member_same x v w ints = refl
+member_same x v w boos = refl
+member_same x v w (sets h) = ap some (h x)
+member_same x v w naturals = refl
+member_same x v w positives = refl
+member_same x v w (pairs a b) = refl
 
 set_step : (s s' : List ℤ) → SameMembers s s' → (o p : Option (List ℤ)) → Both SameMembers o p → (o >>= λ t. some (same_set s t)) ≡ (p >>= λ t. some (same_set s' t))
 set_step s s' h o p neither = refl

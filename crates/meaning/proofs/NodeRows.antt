@@ -2,7 +2,7 @@
 use Prim.Native.Nat.{ℕ, ◌<◌}
 use mathlib.Core.Path.{◌≡◌, refl}
 use mathlib.Core.List.{List}
-use mathlib.Core.Bool.{Bool, true, false, not, ◌&&◌, ◌||◌}
+use mathlib.Core.Bool.{Bool, true, false, ◌||◌}
 use native.Mathlib.Omega.{arith}
 use lib.ListN.{length}
 use lib.Dec.{eqb, ltb}
@@ -33,16 +33,42 @@ pub con_result : (c : Con) → (con_row c).result ≡ is (ty_of (constant c))
 con_result = elim [ C.top ↦ refl | C.bot ↦ refl | C.empty ↦ refl | C.nat ↦ refl | C.nat1 ↦ refl | C.tru ↦ refl | C.fls ↦ refl ]
 
 pub con_row_law : (c : Con) (n : ℕ) → declares (con_row c).number n ≡ 0
-con_row_law c n = elim c [ C.top ↦ refl | C.bot ↦ refl | C.empty ↦ refl | C.nat ↦ refl | C.nat1 ↦ refl | C.tru ↦ refl | C.fls ↦ refl ]
+con_row_law C.top n = refl
+con_row_law C.bot n = refl
+con_row_law C.empty n = refl
+con_row_law C.nat n = refl
+con_row_law C.nat1 n = refl
+con_row_law C.tru n = refl
+con_row_law C.fls n = refl
 
 pub rel_row_law : (r : Rel) (n : ℕ) → ((rel_row r).arity ≡ fixed 2) × ((rel_row r).result ≡ is (base T.prop)) × (declares (rel_row r).number n ≡ 0)
-rel_row_law r n = elim r [ C.eq ↦ (refl, refl, refl) | C.lt ↦ (refl, refl, refl) | C.le ↦ (refl, refl, refl) | C.gt ↦ (refl, refl, refl) | C.ge ↦ (refl, refl, refl) | C.mem ↦ (refl, refl, refl) | C.sub ↦ (refl, refl, refl) | C.sube ↦ (refl, refl, refl) ]
+rel_row_law C.eq n = (refl, refl, refl)
+rel_row_law C.lt n = (refl, refl, refl)
+rel_row_law C.le n = (refl, refl, refl)
+rel_row_law C.gt n = (refl, refl, refl)
+rel_row_law C.ge n = (refl, refl, refl)
+rel_row_law C.mem n = (refl, refl, refl)
+rel_row_law C.sub n = (refl, refl, refl)
+rel_row_law C.sube n = (refl, refl, refl)
 
 pub fun_row_law : (f : Fun) (n : ℕ) → declares (fun_row f).number n ≡ 0
-fun_row_law f n = elim f [ C.neg ↦ refl | C.imp ↦ refl | C.iff ↦ refl | C.minus ↦ refl | C.uminus ↦ refl | C.diff ↦ refl | C.bool ↦ refl | C.mapsto ↦ refl ]
+fun_row_law C.neg n = refl
+fun_row_law C.imp n = refl
+fun_row_law C.iff n = refl
+fun_row_law C.minus n = refl
+fun_row_law C.uminus n = refl
+fun_row_law C.diff n = refl
+fun_row_law C.bool n = refl
+fun_row_law C.mapsto n = refl
 
 pub many_row_law : (m : Many) (n : ℕ) → declares (many_row m).number n ≡ 0
-many_row_law m n = elim m [ C.and ↦ refl | C.or ↦ refl | C.add ↦ refl | C.mul ↦ refl | C.union ↦ refl | C.inter ↦ refl | C.ext ↦ refl ]
+many_row_law C.and n = refl
+many_row_law C.or n = refl
+many_row_law C.add n = refl
+many_row_law C.mul n = refl
+many_row_law C.union n = refl
+many_row_law C.inter n = refl
+many_row_law C.ext n = refl
 
 or_neither : (a b : Bool) → (a || b) ≡ false → a ≡ false
 or_neither true b e = e

@@ -30,41 +30,113 @@ Has o τ = (v : Val) × (o ≡ some v) × (ty_of v ≡ τ)
 
 -- ---- one value
 pub reads_truth : (v : Val) → is_some (as_truth v) ≡ among? (kind_of (ty_of v)) (one T.prop ∷ [])
-reads_truth v = elim v [ truth b ↦ refl | int z ↦ refl | boo b ↦ refl | set s ↦ refl | nats ↦ refl | nats1 ↦ refl | pair a b ↦ refl ]
+reads_truth (truth b) = refl
+reads_truth (int z) = refl
+reads_truth (boo b) = refl
+reads_truth (set s) = refl
+reads_truth nats = refl
+reads_truth nats1 = refl
+reads_truth (pair a b) = refl
 
 pub reads_int : (v : Val) → is_some (as_int v) ≡ among? (kind_of (ty_of v)) (one T.int ∷ [])
-reads_int v = elim v [ truth b ↦ refl | int z ↦ refl | boo b ↦ refl | set s ↦ refl | nats ↦ refl | nats1 ↦ refl | pair a b ↦ refl ]
+reads_int (truth b) = refl
+reads_int (int z) = refl
+reads_int (boo b) = refl
+reads_int (set s) = refl
+reads_int nats = refl
+reads_int nats1 = refl
+reads_int (pair a b) = refl
 
 pub reads_boo : (v : Val) → is_some (as_boo v) ≡ among? (kind_of (ty_of v)) (one T.boo ∷ [])
-reads_boo v = elim v [ truth b ↦ refl | int z ↦ refl | boo b ↦ refl | set s ↦ refl | nats ↦ refl | nats1 ↦ refl | pair a b ↦ refl ]
+reads_boo (truth b) = refl
+reads_boo (int z) = refl
+reads_boo (boo b) = refl
+reads_boo (set s) = refl
+reads_boo nats = refl
+reads_boo nats1 = refl
+reads_boo (pair a b) = refl
 
 pub reads_set : (v : Val) → is_some (as_set v) ≡ among? (kind_of (ty_of v)) (one T.set ∷ [])
-reads_set v = elim v [ truth b ↦ refl | int z ↦ refl | boo b ↦ refl | set s ↦ refl | nats ↦ refl | nats1 ↦ refl | pair a b ↦ refl ]
+reads_set (truth b) = refl
+reads_set (int z) = refl
+reads_set (boo b) = refl
+reads_set (set s) = refl
+reads_set nats = refl
+reads_set nats1 = refl
+reads_set (pair a b) = refl
 
 reads_pair : (v : Val) → is_some (as_pair v) ≡ among? (kind_of (ty_of v)) (pairs ∷ [])
-reads_pair v = elim v [ truth b ↦ refl | int z ↦ refl | boo b ↦ refl | set s ↦ refl | nats ↦ refl | nats1 ↦ refl | pair a b ↦ refl ]
+reads_pair (truth b) = refl
+reads_pair (int z) = refl
+reads_pair (boo b) = refl
+reads_pair (set s) = refl
+reads_pair nats = refl
+reads_pair nats1 = refl
+reads_pair (pair a b) = refl
 
 pub reads_data : (v : Val) → is_some (as_data v) ≡ among? (kind_of (ty_of v)) any_data
-reads_data v = elim v [ truth b ↦ refl | int z ↦ refl | boo b ↦ refl | set s ↦ refl | nats ↦ refl | nats1 ↦ refl | pair a b ↦ refl ]
+reads_data (truth b) = refl
+reads_data (int z) = refl
+reads_data (boo b) = refl
+reads_data (set s) = refl
+reads_data nats = refl
+reads_data nats1 = refl
+reads_data (pair a b) = refl
 
 pub reads_member : (x : ℤ) (v : Val) → is_some (member_of x v) ≡ among? (kind_of (ty_of v)) (one T.set ∷ one T.nats ∷ one T.nats1 ∷ [])
-reads_member x v = elim v [ truth b ↦ refl | int z ↦ refl | boo b ↦ refl | set s ↦ refl | nats ↦ refl | nats1 ↦ refl | pair a b ↦ refl ]
+reads_member x (truth b) = refl
+reads_member x (int z) = refl
+reads_member x (boo b) = refl
+reads_member x (set s) = refl
+reads_member x nats = refl
+reads_member x nats1 = refl
+reads_member x (pair a b) = refl
 
 -- .. and what was read is what the value holds
 pub is_truth : (w : Val) (b : Bool) → as_truth w ≡ some b → truth b ≡ w
-is_truth w b = elim w [ truth c ↦ λ e. cc | int y ↦ λ e. cc | boo c ↦ λ e. cc | set s ↦ λ e. cc | nats ↦ λ e. cc | nats1 ↦ λ e. cc | pair c d ↦ λ e. cc ]
+is_truth (truth c) b = λ e. cc
+is_truth (int y) b = λ e. cc
+is_truth (boo c) b = λ e. cc
+is_truth (set s) b = λ e. cc
+is_truth nats b = λ e. cc
+is_truth nats1 b = λ e. cc
+is_truth (pair c d) b = λ e. cc
 
 pub is_int : (w : Val) (z : ℤ) → as_int w ≡ some z → int z ≡ w
-is_int w z = elim w [ truth c ↦ λ e. cc | int y ↦ λ e. cc | boo c ↦ λ e. cc | set s ↦ λ e. cc | nats ↦ λ e. cc | nats1 ↦ λ e. cc | pair c d ↦ λ e. cc ]
+is_int (truth c) z = λ e. cc
+is_int (int y) z = λ e. cc
+is_int (boo c) z = λ e. cc
+is_int (set s) z = λ e. cc
+is_int nats z = λ e. cc
+is_int nats1 z = λ e. cc
+is_int (pair c d) z = λ e. cc
 
 pub is_boo : (w : Val) (b : Bool) → as_boo w ≡ some b → boo b ≡ w
-is_boo w b = elim w [ truth c ↦ λ e. cc | int y ↦ λ e. cc | boo c ↦ λ e. cc | set s ↦ λ e. cc | nats ↦ λ e. cc | nats1 ↦ λ e. cc | pair c d ↦ λ e. cc ]
+is_boo (truth c) b = λ e. cc
+is_boo (int y) b = λ e. cc
+is_boo (boo c) b = λ e. cc
+is_boo (set s) b = λ e. cc
+is_boo nats b = λ e. cc
+is_boo nats1 b = λ e. cc
+is_boo (pair c d) b = λ e. cc
 
 pub is_set : (w : Val) (t : List ℤ) → as_set w ≡ some t → set t ≡ w
-is_set w t = elim w [ truth c ↦ λ e. cc | int y ↦ λ e. cc | boo c ↦ λ e. cc | set s ↦ λ e. cc | nats ↦ λ e. cc | nats1 ↦ λ e. cc | pair c d ↦ λ e. cc ]
+is_set (truth c) t = λ e. cc
+is_set (int y) t = λ e. cc
+is_set (boo c) t = λ e. cc
+is_set (set s) t = λ e. cc
+is_set nats t = λ e. cc
+is_set nats1 t = λ e. cc
+is_set (pair c d) t = λ e. cc
 
 pub is_data : (w u : Val) → as_data w ≡ some u → u ≡ w
-is_data w u = elim w [ truth c ↦ λ e. cc | int y ↦ λ e. cc | boo c ↦ λ e. cc | set s ↦ λ e. cc | nats ↦ λ e. cc | nats1 ↦ λ e. cc | pair c d ↦ λ e. cc ]
+is_data (truth c) u = λ e. cc
+is_data (int y) u = λ e. cc
+is_data (boo c) u = λ e. cc
+is_data (set s) u = λ e. cc
+is_data nats u = λ e. cc
+is_data nats1 u = λ e. cc
+is_data (pair c d) u = λ e. cc
 
 pub is_pair : (w : Val) (p : Val × Val) → as_pair w ≡ some p → pair p.0 p.1 ≡ w
 is_pair (truth b) p e = none_some e

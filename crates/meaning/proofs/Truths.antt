@@ -17,7 +17,7 @@ use Rattle.formula.specs.Typing.{type_of}
 use Rattle.formula.specs.declared.Sort.TheVariants as sort
 use Rattle.formula.proofs.Typed.{typed_right}
 use Rattle.formula.proofs.DataType.{types_of_data, sort_type}
-use Rattle.meaning.specs.Value.{Val, truth, int, boo, set, nats, nats1, pair, ty_of}
+use Rattle.meaning.specs.Value.{Val, truth, ty_of}
 use Rattle.meaning.specs.Valuation.{Valuation}
 use Rattle.meaning.specs.Meaning.{eval}
 use Rattle.meaning.specs.Refutes.{Predicate, True, False}
@@ -27,8 +27,13 @@ use Rattle.meaning.proofs.Has.{has_value}
 
 -- only predicates have the sort of predicates
 prop_sort : (τ : Ty) → sort_of_ty τ ≡ sort.Predicate → τ ≡ base T.prop
-prop_sort (base b) = elim b [ T.prop ↦ λ e. refl | T.int ↦ λ e. cc | T.boo ↦ λ e. cc | T.set ↦ λ e. cc | T.nats ↦ λ e. cc | T.nats1 ↦ λ e. cc ]
-prop_sort (T.pair a b) = λ e. cc
+prop_sort (base T.prop) e = refl
+prop_sort (base T.int) e = cc
+prop_sort (base T.boo) e = cc
+prop_sort (base T.set) e = cc
+prop_sort (base T.nats) e = cc
+prop_sort (base T.nats1) e = cc
+prop_sort (T.pair a b) e = cc
 
 -- an accepted predicate has the type of predicates
 pub predicate_type : (types : List ℕ) (x : Tree) (F : Formula types sort.Predicate x) → type_of (types_of types) 0 x ≡ some (base T.prop)

@@ -1,34 +1,32 @@
 -- The own bytes of a node: what the code answers of them is what document 01 says, the packed row for the row in words.
-use Prim.Native.Nat.{ℕ, zero, suc, ◌+◌, ◌-◌, ◌<◌, ◌≤◌}
+use Prim.Native.Nat.{ℕ, ◌+◌, ◌-◌, ◌<◌}
 use mathlib.Core.Path.{◌≡◌, refl, sym, ap, ◌∙◌}
-use mathlib.Core.Bool.{Bool, true, false, not, ◌&&◌, ◌||◌}
+use mathlib.Core.Bool.{Bool, true, false}
 use mathlib.Core.Option.{Option, some, none}
 use mathlib.Core.Logic.{◌⊎◌, inl, inr}
 use mathlib.Core.List.{List}
 use native.Mathlib.Nat.{add-zero}
 use native.Mathlib.Omega.{arith}
-use lib.ListN.{length, get_or, take, drop}
+use lib.ListN.{length, get_or}
 use lib.Dec.{eqb, ltb, leb}
 use lib.Bits.{bit_and, and_zero_r}
-use borrow.Author.Tests.{lt-ltb, le-ltb, le-leb, lt-leb, eq-eqb, ne_eqb, ltb-true, ltb-false, leb-true, leb-false}
+use borrow.Author.Tests.{lt-ltb, le-ltb, lt-leb, eq-eqb, ne_eqb, ltb-true, ltb-false, leb-true, leb-false}
 use Rattle.formula.specs.Pick.{pick}
-use Rattle.formula.specs.Codes.{Code, codes, code_at, with_number}
+use Rattle.formula.specs.Codes.{Code, code_at, with_number}
 use Rattle.formula.specs.Types.{Want}
-use Rattle.formula.specs.NodeTable.{Row, row_of, Number, nothing, identifier, index, word, count, variables, width, own_length, declares, Arity, fixed, counted, operands, sort_of, same_sort}
-use Rattle.formula.specs.Mirror.PackedTable.{row_at, field, own, sort, number_in, count_of, binds_of}
+use Rattle.formula.specs.NodeTable.{row_of, Number, nothing, identifier, index, word, count, variables, width, own_length, declares, operands, sort_of}
+use Rattle.formula.specs.Mirror.PackedTable.{row_at, field, own, sort, number_in, binds_of}
 use Rattle.reader.specs.Mirror.Node.{Ops, Head, fine, faulty, the_ops, head_fault, head_row, head_at}
 use Rattle.formula.specs.Mirror.Bytes.{byte_at, own_byte}
 use Rattle.reader.specs.Mirror.Walk.{end_of}
-use Rattle.formula.specs.Reading.{Parsed, got, not_got, on_fault, of_le, number_at, own_bytes, node_at}
+use Rattle.formula.specs.Reading.{Parsed, got, not_got, on_fault, number_at, own_bytes, node_at}
 use Rattle.formula.specs.declared.Sort.{Sort}
-use Rattle.refusal.specs.declared.Cause.{Cause}
 use Rattle.refusal.specs.declared.Cause.TheVariants as cause
-use Rattle.formula.proofs.Choices.{never, and_left, and_right}
+use Rattle.formula.proofs.Choices.{never}
 use Rattle.formula.specs.NodeFault.{Fault, other_sort, number_out, node_fault}
 use Rattle.formula.proofs.FaultLaws.{fault_long}
-use Rattle.formula.proofs.Every.{every, every_code}
-use Rattle.formula.proofs.TableIs.{Columns, columns_at, no_row, declares_is, count_is}
-use Rattle.formula.proofs.Wants.{Wants, leaf?}
+use Rattle.formula.proofs.TableIs.{columns_at, no_row, declares_is}
+use Rattle.formula.proofs.Wants.{Wants}
 
 -- two tests of numbers that say the same
 pub alike : (a b : Bool) → (a ≡ true → b ≡ true) → (a ≡ false → b ≡ false) → a ≡ b

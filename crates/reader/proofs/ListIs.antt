@@ -1,23 +1,21 @@
 -- A list of operands: what the code answers of it is what document 01 says, once for every count.
-use Prim.Native.Nat.{ℕ, zero, suc, ◌+◌, ◌-◌, ◌<◌, ◌≤◌}
-use mathlib.Core.Path.{◌≡◌, refl, sym, ap, ◌∙◌}
-use mathlib.Core.Bool.{Bool, true, false, not, ◌&&◌}
+use Prim.Native.Nat.{ℕ, zero, suc, ◌+◌, ◌≤◌}
+use mathlib.Core.Path.{◌≡◌, sym, ap, ◌∙◌}
+use mathlib.Core.Bool.{false, not, ◌&&◌}
 use mathlib.Core.Option.{Option, some, none}
-use mathlib.Core.List.{List, [], ◌∷◌}
+use mathlib.Core.List.{List}
 use native.Mathlib.Omega.{arith}
 use lib.ListN.{length}
 use lib.Dec.{eqb}
-use lib.Bits.{bit_and}
-use borrow.Author.Tests.{eqb-true, eq-eqb, ne_eqb}
 use Rattle.formula.specs.Pick.{pick, or_else}
-use Rattle.formula.specs.Types.{Ty, kind_of, Kind, types_of, Want, among, same, Rest, these, as_first, among?, may, may_all, want_next}
+use Rattle.formula.specs.Types.{Ty, kind_of, Kind, types_of, Want, among, these, may, may_all}
 use Rattle.formula.specs.NodeTable.{sort_of_ty}
-use Rattle.formula.specs.Tree.{Tree, node, Trees, nil, ◌▹◌, size, encode}
+use Rattle.formula.specs.Tree.{Tree, Trees, ◌▹◌, encode}
 use Rattle.formula.specs.Typing.{head_type, head_types, first_wrong, first_wrong_in}
 use Rattle.formula.specs.Mirror.PackedTable.{bit}
 use Rattle.reader.specs.Mirror.Node.{Ops, head_at}
 use Rattle.reader.specs.Mirror.Walk.{on_head, on_read, below_at, list_with, next_want, unlike, bad_after, end_of}
-use Rattle.formula.specs.Reading.{Parsed, got, not_got, on_got, operands_by, formula_at}
+use Rattle.formula.specs.Reading.{Parsed, got, on_got, operands_by, formula_at}
 use Rattle.formula.specs.declared.Sort.{Sort}
 use Rattle.reader.specs.declared.Got.{Got}
 use Rattle.reader.specs.declared.Answer.{Answer}

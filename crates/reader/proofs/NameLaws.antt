@@ -8,7 +8,7 @@ use native.Mathlib.Omega.{arith}
 use lib.ListN.{length, get_or}
 use lib.Dec.{eqb, ltb, leb}
 use lib.Bits.{bit_and, and_step, and_zero_r}
-use borrow.Author.Tests.{le-ltb, lt-leb, ne_eqb, leb-false, eqb-true, eqb-false, ltb-true}
+use borrow.Author.Tests.{lt-leb, ne_eqb, leb-false, eqb-true, eqb-false, ltb-true}
 use Rattle.formula.specs.Pick.{pick}
 use Rattle.formula.specs.Codes.{codes}
 use Rattle.formula.specs.Mirror.PackedTable.{table, row_at, field, own, sort, number_in, count_of, binds_of, ident_type, type_by}

@@ -14,7 +14,7 @@ use Rattle.formula.specs.Pick.{pick}
 use Rattle.formula.specs.NodeTable.{Number, nothing, identifier, index, word, count, variables}
 use Rattle.formula.specs.NodeFault.{Fault, number_out, number_fault, node_fault}
 use Rattle.formula.specs.Mirror.PackedTable.{row_at, field, own, sort, number_in, ident_type, type_by}
-use Rattle.reader.specs.Mirror.Node.{Ops, Head, fine, faulty, the_ops, refusal, head_fault, head_row, head_at, refusal_by, refusal_row, refusal_at, seen_at, refused_here, name_at}
+use Rattle.reader.specs.Mirror.Node.{Ops, Head, fine, faulty, the_ops, head_fault, head_row, head_at, refusal_by, refusal_row, refusal_at, seen_at, refused_here, name_at}
 use Rattle.formula.specs.Mirror.Bytes.{byte_at, own_byte}
 use Rattle.refusal.specs.declared.Cause.{Cause}
 use Rattle.refusal.specs.declared.Cause.TheVariants as cause

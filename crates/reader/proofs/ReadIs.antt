@@ -1,21 +1,21 @@
 -- THE READER on bytes is document 01's: of any bytes, the same answer.
-use Prim.Native.Nat.{ℕ, zero, suc, ◌+◌, ◌-◌, ◌<◌, ◌≤◌}
+use Prim.Native.Nat.{ℕ, zero, suc, ◌+◌, ◌<◌, ◌≤◌}
 use mathlib.Core.Path.{◌≡◌, refl, sym, ap, ◌∙◌, subst}
-use mathlib.Core.Bool.{Bool, true, false, not, ◌&&◌}
-use mathlib.Core.Option.{Option, some, none}
-use mathlib.Core.List.{List, [], ◌∷◌}
+use mathlib.Core.Bool.{Bool, true, false, ◌&&◌}
+use mathlib.Core.Option.{Option, some}
+use mathlib.Core.List.{List}
 use native.Mathlib.Omega.{arith}
 use lib.ListN.{length, get_or}
-use lib.Dec.{eqb, leb}
-use borrow.Author.Tests.{eqb-true, eq-eqb, ne_eqb, lt-leb}
-use Rattle.formula.specs.Pick.{pick, or_else}
+use lib.Dec.{eqb}
+use borrow.Author.Tests.{eqb-true, ne_eqb, lt-leb}
+use Rattle.formula.specs.Pick.{pick}
 use Rattle.formula.specs.Codes.{Code, codes, code_at}
-use Rattle.formula.specs.Types.{Ty, kind_of, Kind, types_of, Want, among, Rest, these, as_first, may_all}
+use Rattle.formula.specs.Types.{Ty, Kind, types_of, among, Rest, these, as_first, may_all}
 use Rattle.formula.specs.NodeTable.{Row, row_of, width, own_length, declares, operands, Arity, fixed, counted, sort_of_ty, sort_of_kinds, sort_of_rest, same_sort}
-use Rattle.formula.specs.Tree.{Tree, node, Trees, nil, ◌▹◌, size, number_of, encode}
+use Rattle.formula.specs.Tree.{Tree, node, Trees, number_of}
 use Rattle.formula.specs.Formed.{inner}
 use Rattle.formula.specs.Typing.{right, head_type, head_types, first_wrong, first_wrong_in}
-use Rattle.formula.specs.Mirror.PackedTable.{bit, mask, rest_mask, row_at, own, first, rest, count_of, binds_of, type_by}
+use Rattle.formula.specs.Mirror.PackedTable.{mask, rest_mask, row_at, own, first, rest, binds_of}
 use Rattle.reader.specs.Mirror.Node as B
 use Rattle.formula.specs.Mirror.Bytes as M
 use Rattle.reader.specs.Mirror.Node.{Ops, Head, head_at}
@@ -27,14 +27,13 @@ use Rattle.formula.specs.declared.Sort.TheVariants as sorts
 use Rattle.refusal.specs.declared.Cause.TheVariants as cause
 use Rattle.reader.specs.declared.Got.{Got}
 use Rattle.reader.specs.declared.Answer.{Answer}
-use Rattle.reader.specs.declared.Answer.TheVariants as answer
 use Rattle.formula.proofs.Choices.{never, and_left, and_right}
 use Rattle.formula.proofs.Every.{every, every_code}
-use Rattle.formula.proofs.TableIs.{Columns, columns_at}
+use Rattle.formula.proofs.TableIs.{columns_at}
 use Rattle.formula.proofs.Wants.{Wants, leaf?, first_wants, rest_wants, some_rest}
-use Rattle.reader.proofs.HeadRead.{to_head, ops_at, head_is, own_there, binds_there}
-use Rattle.formula.proofs.Back.{OfGot, OwnRead, node_read, no_level, read-ends, read_formed}
-use Rattle.formula.proofs.Stands.{NodeAt, Stands}
+use Rattle.reader.proofs.HeadRead.{to_head, head_is, binds_there}
+use Rattle.formula.proofs.Back.{OfGot, OwnRead, node_read, no_level, read_formed}
+use Rattle.formula.proofs.Stands.{NodeAt}
 use Rattle.formula.proofs.ReadStands.{own_stands, read_stands}
 use Rattle.formula.proofs.OwnIs.{count_there}
 use Rattle.formula.proofs.HeadIs.{has_type, type_there}

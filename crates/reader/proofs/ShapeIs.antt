@@ -13,7 +13,6 @@ use Rattle.formula.specs.Types.{Base, prop, int, boo, set, nats, nats1, one, Ty,
 use Rattle.formula.specs.NodeTable.{row_of, own_length}
 use Rattle.formula.specs.Tree.{Tree, node, Trees, nil, ◌▹◌, size, number_of}
 use Rattle.formula.specs.Typing.{pair_of, head_type, head_types}
-use Rattle.formula.specs.Mirror.Bytes.{byte_at}
 use Rattle.reader.specs.Mirror.Shape.{is_pair, are_pairs, leaf_ends, then_shape, shape}
 use Rattle.reader.specs.declared.Ends.{Ends}
 use Rattle.formula.proofs.Choices.{never, none_some}

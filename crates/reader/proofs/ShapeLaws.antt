@@ -79,7 +79,7 @@ module _ (s types : List ℕ) (a b : ℕ) where
       where
         go : (l : ℕ) → (l ≡ 0 → ⊥) → e ≡ shape (l - 1) s types (a + 1) (b + 1) → e ≡ shape l s types a b
         go zero n q = absurd (n refl)
-        go (suc l) n q = let q' : e ≡ shape l s types (a + 1) (b + 1) = rw (sub-one (suc l)) at q in simp (← f, h, ← q', w)
+        go (suc l) n q = let q' : e ≡ shape l s types (a + 1) (b + 1) = rw (sub-one (suc l)) at q in simp (← f, h, ← q') (ap (λ (v : Bool). pick v (shape l s types e.a e.b) e) (sym w))
 
     pub shape_yes : (z : Ends) → e.same ≡ true → z ≡ shape (l - 1) s types e.a e.b → z ≡ shape l s types a b
     unfolding shape

@@ -1,5 +1,5 @@
 -- The two sides of =: the second is to be of the type of the first, pairs by shape.
-use Prim.Native.Nat.{ℕ, zero, suc, ◌+◌, ◌-◌, ◌<◌, ◌≤◌}
+use Prim.Native.Nat.{ℕ, ◌+◌, ◌≤◌}
 use mathlib.Core.Path.{◌≡◌, refl, sym, ap, ◌∙◌, subst}
 use mathlib.Core.Bool.{Bool, true, false, not, ◌&&◌}
 use mathlib.Core.Option.{Option, some, none}
@@ -7,21 +7,16 @@ use mathlib.Core.List.{List, [], ◌∷◌}
 use native.Mathlib.Omega.{arith}
 use lib.ListN.{length}
 use lib.Dec.{eqb}
-use lib.Bits.{bit_and}
-use borrow.Author.Tests.{eqb-true, eq-eqb, ne_eqb}
 use Rattle.formula.specs.Pick.{pick, or_else}
-use Rattle.formula.specs.Types.{Base, Base-discrete, prop, int, boo, set, nats, nats1, Ty, base, pair, kind_of, Kind, Kind-discrete, one, pairs, types_of, Want, among, same, Rest, these, as_first, among?, may, may_all, want_next, eq_kind, eq_ty}
-use Rattle.formula.specs.NodeTable.{sort_of_ty}
-use Rattle.formula.specs.Tree.{Tree, node, Trees, nil, ◌▹◌, size, encode}
+use Rattle.formula.specs.Types.{Base, Base-discrete, prop, int, boo, set, nats, nats1, Ty, base, pair, kind_of, Kind, Kind-discrete, one, types_of, among, same, as_first, may, may_all, eq_kind, eq_ty}
+use Rattle.formula.specs.Tree.{Tree, Trees, nil, ◌▹◌, encode}
 use Rattle.formula.specs.Typing.{head_type, head_types, first_wrong, first_wrong_in}
 use Rattle.formula.specs.Mirror.PackedTable.{bit}
 use Rattle.reader.specs.Mirror.Node.{Ops, head_at}
-use Rattle.reader.specs.Mirror.Walk.{on_head, on_read, below_at, list_with, next_want, unlike, bad_after, end_of}
+use Rattle.reader.specs.Mirror.Walk.{below_at, list_with, next_want, unlike, bad_after, end_of}
 use Rattle.reader.specs.Mirror.Shape.{shape}
-use Rattle.formula.specs.Reading.{Parsed, got, not_got, on_got, operands_by, formula_at}
+use Rattle.formula.specs.Reading.{got, on_got, operands_by}
 use Rattle.formula.specs.declared.Sort.{Sort}
-use Rattle.formula.specs.declared.Sort.TheVariants as sorts
-use Rattle.reader.specs.declared.Got.{Got}
 use Rattle.reader.specs.declared.Answer.{Answer}
 use Rattle.formula.proofs.Choices.{never}
 use Rattle.formula.proofs.Wants.{Wants, same_wants, one_hot}

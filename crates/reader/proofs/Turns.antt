@@ -16,7 +16,6 @@ use Rattle.reader.specs.declared.Got.{Got}
 use Rattle.reader.specs.declared.Answer.{Answer}
 use Rattle.reader.specs.declared.Answer.TheVariants as answer
 use Rattle.reader.specs.declared.Walk.{Walk}
-use Rattle.reader.proofs.NodeLaws.{stands}
 use Rattle.reader.proofs.ReaderLaws.{list_starts}
 
 -- ---- a list of operands, and one before which a mark is kept

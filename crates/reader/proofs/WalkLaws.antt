@@ -10,9 +10,9 @@ use lib.Dec.{eqb}
 use borrow.Author.Tests.{leb-false, eqb-false}
 use Rattle.formula.specs.Pick.{pick}
 use Rattle.formula.specs.Mirror.PackedTable.{table, row_at, own, type_by}
-use Rattle.reader.specs.Mirror.Node.{Ops, Head, fine, faulty, head_at, refusal_at, seen_at, refused_here, name_at}
+use Rattle.reader.specs.Mirror.Node.{Ops, Head, head_at, refusal_at, seen_at, refused_here, name_at}
 use Rattle.formula.specs.Mirror.Bytes.{byte_at, own_byte}
-use Rattle.reader.specs.Mirror.Walk.{unlike, on_head, on_read, list_with, below_at, Going, first_mark, judged, next_operand, operands_of, keeping, keep, read_from, Stood, Turn}
+use Rattle.reader.specs.Mirror.Walk.{unlike, on_read, list_with, below_at, Going, first_mark, judged, next_operand, operands_of, keeping, keep, read_from, Stood, Turn}
 use Rattle.refusal.specs.declared.Refusal.{Refusal}
 use Rattle.reader.specs.declared.Got.{Got}
 use Rattle.reader.specs.declared.Answer.{Answer}

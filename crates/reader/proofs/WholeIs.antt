@@ -1,32 +1,28 @@
 -- A whole formula: the reader's answer is document 01's.
-use Prim.Native.Nat.{ℕ, zero, suc, ◌+◌, ◌-◌, ◌≤◌}
-use mathlib.Core.Path.{◌≡◌, refl, sym, ap, ◌∙◌, subst}
-use mathlib.Core.Bool.{Bool, true, false, not}
+use Prim.Native.Nat.{ℕ, ◌+◌, ◌-◌}
+use mathlib.Core.Path.{◌≡◌, refl, ap, ◌∙◌, subst}
+use mathlib.Core.Bool.{true, false}
 use mathlib.Core.Option.{Option, some, none}
 use mathlib.Core.List.{List}
 use native.Mathlib.Omega.{arith}
 use lib.ListN.{length}
 use lib.Dec.{eqb}
-use lib.Bits.{bit_and}
 use borrow.Author.Tests.{ne_eqb}
-use Rattle.formula.specs.Pick.{pick}
-use Rattle.formula.specs.Types.{Base, prop, int, boo, set, nats, nats1, Ty, base, pair, kind_of, types_of, among, among?}
+use Rattle.formula.specs.Types.{prop, int, boo, set, nats, nats1, Ty, base, pair, kind_of, types_of, among, among?}
 use Rattle.formula.specs.NodeTable.{sort_of_ty}
 use Rattle.formula.specs.Tree.{Tree}
 use Rattle.formula.specs.Typing.{head_type, first_wrong}
 use Rattle.formula.specs.Mirror.PackedTable.{bit, sort_mask, root_row, field, first, rest}
-use Rattle.reader.specs.Mirror.Walk.{on_head, on_read, below_at, list_with, next_want, unlike, bad_after, read_from, end_of, reading_of, whole_at, read_whole}
+use Rattle.reader.specs.Mirror.Walk.{below_at, list_with, unlike, bad_after, read_from, end_of, reading_of, whole_at, read_whole}
 use Rattle.reader.specs.Mirror.Node.{head_at}
 use Rattle.formula.specs.Reading.{Parsed, got, not_got, formula_at}
 use Rattle.formula.specs.Formula.{typed?, asked8, tree_at, end_or_refusal, read_formula}
 use Rattle.formula.specs.declared.Sort.{Sort}
 use Rattle.formula.specs.declared.Sort.TheVariants as sorts
 use Rattle.refusal.specs.declared.Cause.TheVariants as cause
-use Rattle.reader.specs.declared.Got.{Got}
-use Rattle.reader.specs.declared.Answer.{Answer}
 use Rattle.formula.specs.declared.Reading.{Reading}
 use Rattle.formula.specs.declared.Reading.TheVariants as reading
-use Rattle.formula.proofs.Wants.{Wants, root_kinds, root_wants}
+use Rattle.formula.proofs.Wants.{root_kinds, root_wants}
 use Rattle.reader.proofs.Goings.{answered, gives, mark_of}
 use Rattle.reader.proofs.ListIs.{type_bit, OperandIs}
 use Rattle.reader.proofs.ReadIs.{operand_is}
@@ -48,7 +44,7 @@ some_sort sorts.Expression = refl
 
 -- any kind of the sort may stand at the root
 root_may : (τ : Ty) → among? (kind_of τ) (root_kinds (sort_of_ty τ)) ≡ true
-root_may (base b) = elim b [ prop ↦ refl | int ↦ refl | boo ↦ refl | set ↦ refl | nats ↦ refl | nats1 ↦ refl ]
+root_may (base b) = elim b as (λ k. among? (kind_of (base k)) (root_kinds (sort_of_ty (base k))) ≡ true) [ prop ↦ refl | int ↦ refl | boo ↦ refl | set ↦ refl | nats ↦ refl | nats1 ↦ refl ]
 root_may (pair a b) = refl
 
 marked_reading : (x : Tree) (o : Option ℕ) (q : ℕ) → reading_of (gives q (mark_of o)) ≡ end_or_refusal (typed? x q o)

@@ -27,7 +27,7 @@ pub enum Answer {
 // Where the reader stands in a list of operands: the place of the next one, how many are left, what the next and the others
 // may be, the mark of their parent, the variables bound, the levels left, and the marks of the first wrong node of this list
 // and of what was read on the way to it.
-#[derive(Drop)]
+#[derive(Clone, Copy)]
 pub struct Walk {
     pub at: usize,
     pub left: usize,
@@ -41,7 +41,7 @@ pub struct Walk {
 }
 
 // What is read of a node before anything is asked of it: its row, the byte after its code, and its type by these.
-#[derive(Drop)]
+#[derive(Clone, Copy)]
 pub struct Seen {
     pub row: u64,
     pub byte: u8,

@@ -1,5 +1,5 @@
 -- What reading a sequent answers: the ones of the masks are the counts.
-use Prim.Native.Nat.{ℕ, ◌-◌}
+use Prim.Native.Nat.{ℕ}
 use mathlib.Core.Path.{◌≡◌, refl, sym, ap, ◌∙◌, subst}
 use mathlib.Core.List.{List}
 use native.Mathlib.Omega.{arith}

@@ -35,7 +35,6 @@ use Rattle.sequent.proofs.SeenIs.{OfGot, PredicateStands, predicate_stood}
 use Rattle.sequent.proofs.FileLaws.{all_bytes}
 use Rattle.desk.proofs.Found.{find_is, there_is}
 use Rattle.desk.proofs.MaskCounts.{mask_more}
-use Rattle.desk.proofs.MaskLaws.{hidden_is, selected_is}
 
 -- ---- the flag of a byte
 record FlagIs (b : ℕ) : Type 0 where

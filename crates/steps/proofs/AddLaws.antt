@@ -1,12 +1,11 @@
 -- Formulas among those of a list, and formulas added.
-use Prim.Native.Nat.{ℕ, ◌+◌, ◌-◌, ◌<◌, ◌≤◌}
+use Prim.Native.Nat.{ℕ, ◌+◌, ◌<◌, ◌≤◌}
 use mathlib.Core.Path.{◌≡◌, refl, sym, ◌∙◌}
 use mathlib.Core.Bool.{Bool, true, false, not}
 use mathlib.Core.List.{List, [], ◌∷◌}
 use native.Mathlib.Omega.{arith}
 use lib.ListN.{length, get_or, length-append}
 use Rattle.formula.specs.Tree.{Tree}
-use Rattle.refusal.specs.declared.Said.{Said}
 use Rattle.desk.specs.Sequent.{Flag, plain, Hypothesis, among, hypothesis}
 use Rattle.desk.specs.Hypotheses.{added_flag, add_one, add_all, all_among}
 use Rattle.desk.specs.Mirror.Desk.{Holds, index_of, flag_at, flag_from, AppendIs}

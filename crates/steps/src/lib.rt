@@ -5,7 +5,7 @@ pub mod add;
 pub mod flags;
 
 // The acts on one flag.
-#[derive(Drop)]
+#[derive(Clone, Copy)]
 pub enum Act {
     Select,
     Deselect,

@@ -72,6 +72,25 @@ module _ (s types : List ℕ) (p e : ℕ) (b : Bool) (q : Rel) (l r : Tree) (c�
   }
 
 -- ---- any other predicate
+-- no other code is a relation's
+con_unrelated : (c : C.Con) → relational (byte_of (con c)) ≡ false
+unfolding relational
+con_unrelated = elim [ C.top ↦ refl | C.bot ↦ refl | C.empty ↦ refl | C.nat ↦ refl | C.nat1 ↦ refl | C.tru ↦ refl | C.fls ↦ refl ]
+
+fun_unrelated : (f : C.Fun) → relational (byte_of (fun f)) ≡ false
+unfolding relational
+fun_unrelated = elim [ C.neg ↦ refl | C.imp ↦ refl | C.iff ↦ refl | C.minus ↦ refl | C.uminus ↦ refl | C.diff ↦ refl | C.bool ↦ refl | C.mapsto ↦ refl ]
+
+many_unrelated : (m : C.Many) → relational (byte_of (many m)) ≡ false
+unfolding relational
+many_unrelated = elim [ C.and ↦ refl | C.or ↦ refl | C.add ↦ refl | C.mul ↦ refl | C.union ↦ refl | C.inter ↦ refl | C.ext ↦ refl ]
+
+bind_unrelated : (v : C.Bind) (k : ℕ) → relational (byte_of (qu v k)) ≡ false
+unfolding relational
+bind_unrelated C.all k = refl
+bind_unrelated C.ex k = refl
+bind_unrelated C.compr k = refl
+
 lone_says : (s : List ℕ) (p e : ℕ) (b : Bool) (x : Tree) → There s p x → p + length (encode x) ≡ e → (z : Sides) (f : Facts) (u v : Bool)
     → Says s (source_with (pick u nothing_number (pick v nothing_number (itself_number b))) (part p e) z f) (pick (u || v) [] (some (record { key = x; value = b }) ∷ []))
 unfolding source_with
@@ -92,7 +111,7 @@ module _ (s types : List ℕ) (p e : ℕ) (b : Bool) where
   source_says_all : (x : Tree) (n : ℕ) (τ : Ty) → There s p x → p + length (encode x) ≡ e → length (encode x) ≤ 1024 → Formed n (length types) 0 sort.Predicate x
       → type_of (types_of types) 0 x ≡ some τ → Says s (source_by s types (part p e) b) (entries_by (types_of types) b x (relation x))
   unfolding relational Formed
-  source_says_all (node (con c) xs) n τ T i h F t = lone_by_law (con c) xs T i (elim c [ C.top ↦ refl | C.bot ↦ refl | C.empty ↦ refl | C.nat ↦ refl | C.nat1 ↦ refl | C.tru ↦ refl | C.fls ↦ refl ])
+  source_says_all (node (con c) xs) n τ T i h F t = lone_by_law (con c) xs T i (con_unrelated c)
   source_says_all (node (ident k) xs) n τ T i h F t = lone_by_law (ident k) xs T i refl
   source_says_all (node (bound k) xs) n τ T i h F t = lone_by_law (bound k) xs T i refl
   source_says_all (node (lit w) xs) n τ T i h F t = lone_by_law (lit w) xs T i refl
@@ -104,9 +123,9 @@ module _ (s types : List ℕ) (p e : ℕ) (b : Bool) where
       let k = sides_short s types p e q l r n τ F T i t h in
       subst (λ (x : Source). Says s x (map (entry_of (types_of types) (turned q l r)) (rows_of b (turned q l r).shape))) (source_is s types p e b q l r c S k) (source_says s types p e b q l r c S k)
   source_says_all (node (rel q) (l ▹ r ▹ x ▹ xs)) n τ T i h F t = absurd (let o = F.1.operands_are ∙ rel_two q 0 in omega (arith, o))
-  source_says_all (node (fun f) xs) n τ T i h F t = lone_by_law (fun f) xs T i (elim f [ C.neg ↦ refl | C.imp ↦ refl | C.iff ↦ refl | C.minus ↦ refl | C.uminus ↦ refl | C.diff ↦ refl | C.bool ↦ refl | C.mapsto ↦ refl ])
-  source_says_all (node (many m) xs) n τ T i h F t = lone_by_law (many m) xs T i (elim m [ C.and ↦ refl | C.or ↦ refl | C.add ↦ refl | C.mul ↦ refl | C.union ↦ refl | C.inter ↦ refl | C.ext ↦ refl ])
-  source_says_all (node (qu v k) xs) n τ T i h F t = lone_by_law (qu v k) xs T i (elim v [ C.all ↦ refl | C.ex ↦ refl | C.compr ↦ refl ])
+  source_says_all (node (fun f) xs) n τ T i h F t = lone_by_law (fun f) xs T i (fun_unrelated f)
+  source_says_all (node (many m) xs) n τ T i h F t = lone_by_law (many m) xs T i (many_unrelated m)
+  source_says_all (node (qu v k) xs) n τ T i h F t = lone_by_law (qu v k) xs T i (bind_unrelated v k)
 
 -- ---- with its ¬ stripped
 made_says : (s types : List ℕ) (w : Part) (starts : Bool) (x : Tree) → Formula types sort.Predicate x → Range s w.at w.end x → Says s (source_at s types w starts) (candidates types starts x)

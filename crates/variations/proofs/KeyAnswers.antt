@@ -83,11 +83,11 @@ abbrev pub verdict : List ℕ → Source → List ℕ → Asked → ℕ → Keye
 verdict s x t y n = pick (row_is s x n t y) (keyed.Yes (eqb (field n 32) 1)) keyed.No
 
 entry_answer : (Γ : List Ty) (q : Relation) (m : Marked) (y : Tree) (v : Bool) → v ≡ m.value
-    → pick (pick (meets Γ q.left q.right m.condition) (same (key_tree q.left q.right m.key_is_law) y) false) (keyed.Yes v) keyed.No ≡ answer (entry_of Γ q m) y
+    → pick (pick (meets Γ q.left q.right m.condition) (same (key_tree q.left q.right m.key_is) y) false) (keyed.Yes v) keyed.No ≡ answer (entry_of Γ q m) y
 entry_answer Γ q m y v e = rw e (go (meets Γ q.left q.right m.condition))
   where
-    go : (c : Bool) → pick (pick c (same (key_tree q.left q.right m.key_is_law) y) false) (keyed.Yes m.value) keyed.No
-        ≡ answer (pick c (some (record { key = key_tree q.left q.right m.key_is_law; value = m.value })) none) y
+    go : (c : Bool) → pick (pick c (same (key_tree q.left q.right m.key_is) y) false) (keyed.Yes m.value) keyed.No
+        ≡ answer (pick c (some (record { key = key_tree q.left q.right m.key_is; value = m.value })) none) y
     go true = refl
     go false = refl
 
@@ -96,7 +96,7 @@ module _ (s types : List ℕ) (x : Source) (q : Relation) (A : PartIs s types x.
   row_answer : (m : Marked) → Columns m → verdict s x t y (pack_row m) ≡ answer (entry_of (types_of types) q m) w
   unfolding same
   row_answer m C =
-      let k = m.key_is_law in
+      let k = m.key_is in
       let l = left_tree q.left q.right k in
       let r = right_tree q.left q.right k in
       let a : SideBytes s (part_of x (field (pack_row m) 8)) (field (pack_row m) 8) (encode l) = rw C.left_is (left_bytes s types x q.left q.right A B k) in

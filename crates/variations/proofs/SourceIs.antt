@@ -14,7 +14,7 @@ use Rattle.formula.specs.Types.{Ty, base, pair, prop, int, boo, set, nats, nats1
 use Rattle.formula.specs.NodeTable.{row_of, rel_row, nothing, sort_of_kinds, sort_of_rest, operands}
 use Rattle.formula.specs.Tree.{Tree, node, nil, ◌▹◌, encode}
 use Rattle.formula.specs.Formed.{Formed}
-use Rattle.formula.specs.Typing.{right, type_of}
+use Rattle.formula.specs.Typing.{type_of}
 use Rattle.formula.specs.Mirror.PackedTable.{bit}
 use Rattle.formula.specs.Mirror.Bytes.{byte_at, type_at, skip_end}
 use Rattle.formula.specs.declared.Sort.{Sort}
@@ -36,7 +36,14 @@ use Rattle.keys.proofs.SideTypes.{rel_plain, rel_inner, typed_sides}
 use Rattle.variations.proofs.LiteralIs.{literal_kind, literal_is, zero_is, positive_is, negative_is}
 
 pub rel_two : (q : Rel) (n : ℕ) → operands (rel_row q).arity n ≡ 2
-rel_two q n = elim q [ eq ↦ refl | lt ↦ refl | le ↦ refl | gt ↦ refl | ge ↦ refl | mem ↦ refl | sub ↦ refl | sube ↦ refl ]
+rel_two eq n = refl
+rel_two lt n = refl
+rel_two le n = refl
+rel_two gt n = refl
+rel_two ge n = refl
+rel_two mem n = refl
+rel_two sub n = refl
+rel_two sube n = refl
 
 rel_sorts : (q : Rel) → (sort_of_kinds (rel_row q).first ≡ sort.Expression) × (sort_of_rest (rel_row q).rest ≡ sort.Expression)
 rel_sorts = elim [ eq ↦ (refl, refl) | lt ↦ (refl, refl) | le ↦ (refl, refl) | gt ↦ (refl, refl) | ge ↦ (refl, refl) | mem ↦ (refl, refl) | sub ↦ (refl, refl) | sube ↦ (refl, refl) ]
@@ -111,11 +118,25 @@ module _ (s types : List ℕ) (p e : ℕ) (q : Rel) (l r : Tree) (n : ℕ) (τ :
 -- ---- turned round
 pub turned_left : (q : Rel) (l r : Tree) → (turned q l r).left ≡ pick (turned_round (rel_byte q)) r l
 unfolding turned_round
-turned_left q l r = elim q [ eq ↦ refl | lt ↦ refl | le ↦ refl | gt ↦ refl | ge ↦ refl | mem ↦ refl | sub ↦ refl | sube ↦ refl ]
+turned_left eq l r = refl
+turned_left lt l r = refl
+turned_left le l r = refl
+turned_left gt l r = refl
+turned_left ge l r = refl
+turned_left mem l r = refl
+turned_left sub l r = refl
+turned_left sube l r = refl
 
 pub turned_right : (q : Rel) (l r : Tree) → (turned q l r).right ≡ pick (turned_round (rel_byte q)) l r
 unfolding turned_round
-turned_right q l r = elim q [ eq ↦ refl | lt ↦ refl | le ↦ refl | gt ↦ refl | ge ↦ refl | mem ↦ refl | sub ↦ refl | sube ↦ refl ]
+turned_right eq l r = refl
+turned_right lt l r = refl
+turned_right le l r = refl
+turned_right gt l r = refl
+turned_right ge l r = refl
+turned_right mem l r = refl
+turned_right sub l r = refl
+turned_right sube l r = refl
 
 -- the part a is where x stands
 pub record PartIs (s types : List ℕ) (a : Part) (x : Tree) : Type 0 where
@@ -162,11 +183,21 @@ unfolding Formed
 part_literal s types a (node k xs) P = literal_is s a k xs P.side.there P.long P.side.formed.1.operands_are P.side.formed.1.word_in
 
 int_bit : (τ : Ty) → eqb (bit (kind_of τ)) 2 ≡ T.eq_ty (base int) τ
-int_bit (base b) = elim b [ prop ↦ refl | int ↦ refl | boo ↦ refl | set ↦ refl | nats ↦ refl | nats1 ↦ refl ]
+int_bit (base prop) = refl
+int_bit (base int) = refl
+int_bit (base boo) = refl
+int_bit (base set) = refl
+int_bit (base nats) = refl
+int_bit (base nats1) = refl
 int_bit (pair a b) = refl
 
 set_bit : (τ : Ty) → eqb (bit (kind_of τ)) 8 ≡ T.eq_ty (base set) τ
-set_bit (base b) = elim b [ prop ↦ refl | int ↦ refl | boo ↦ refl | set ↦ refl | nats ↦ refl | nats1 ↦ refl ]
+set_bit (base prop) = refl
+set_bit (base int) = refl
+set_bit (base boo) = refl
+set_bit (base set) = refl
+set_bit (base nats) = refl
+set_bit (base nats1) = refl
 set_bit (pair a b) = refl
 
 module _ (s types : List ℕ) (z : Sides) (l r : Tree) (P : PartsAre s types z l r) where

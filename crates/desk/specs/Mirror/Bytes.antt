@@ -2,7 +2,7 @@
 use Rattle.std.specs.Prelude.{ℕ, zero, suc, ◌+◌, ◌≤◌, List, Bool, false, length, get_or, leb}
 use Rattle.formula.specs.Pick.{pick}
 use Rattle.formula.specs.Mirror.Ranges.{same_range}
-use Rattle.desk.specs.Sequent.{Hypothesis, hypothesis}
+use Rattle.desk.specs.Sequent.{Hypothesis}
 use Rattle.desk.specs.Mirror.Desk.{view, Holds}
 use Rattle.desk.specs.Mirror.Masks.{with_flag}
 use Rattle.desk.specs.declared.View.{View}

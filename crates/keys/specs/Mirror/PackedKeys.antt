@@ -55,7 +55,7 @@ condition_number positive = 5
 condition_number negative = 6
 
 abbrev pub pack_row : Marked → ℕ
-pack_row m = pack_key m.key_is_law + 2 ^ condition_column * condition_number m.condition + 2 ^ value_column * pick m.value 1 0
+pack_row m = pack_key m.key_is + 2 ^ condition_column * condition_number m.condition + 2 ^ value_column * pick m.value 1 0
 
 -- the one row of a source that gives only itself has no relation
 abbrev pub itself : Bool → ℕ

@@ -2,8 +2,6 @@ use Rattle.reader.proofs.OutcomeLaws.{outcomes}
 use borrow.Author.Rules.{rules}
 use Rattle.reader.proofs.outcome_of.Statement.{statement}
 use Rattle.reader.proofs.outcome_of.Tie as tie
-use Rattle.reader.proofs.outcome_of.Reads as reads
-use Rattle.reader.proofs.outcome_of.Lts as lts
 
 pub outcome_of_spec : {M : Type 1} → statement M
 outcome_of_spec =

@@ -1,5 +1,5 @@
 -- One node as the code reads it: what is seen of it, whether it is refused, and why.
-use Rattle.std.specs.Prelude.{ℕ, zero, suc, ◌+◌, ◌-◌, ◌*◌, ◌<◌, ◌≤◌, ◌≡◌, List, Bool, true, false, length, ltb, leb, eqb}
+use Rattle.std.specs.Prelude.{ℕ, ◌+◌, ◌-◌, List, Bool, true, length, leb, eqb}
 use Rattle.std.proofs.Math.Option.{Option, some, none}
 use Rattle.std.specs.Int.Bits.{bit_and}
 use Rattle.formula.specs.Pick.{pick}

@@ -1,7 +1,5 @@
 -- Whether two expressions have one type, as the code finds it.
-use Rattle.std.specs.Prelude.{ℕ, zero, suc, ◌+◌, ◌-◌, ◌*◌, ◌<◌, ◌≤◌, ◌≡◌, List, Bool, true, false, length, ltb, leb, eqb}
-use Rattle.std.proofs.Math.Option.{Option, some, none}
-use Rattle.std.specs.Int.Bits.{bit_and}
+use Rattle.std.specs.Prelude.{ℕ, zero, suc, ◌+◌, List, Bool, false, eqb}
 use Rattle.formula.specs.Pick.{pick}
 use Rattle.formula.specs.Mirror.PackedTable.{row_at, res}
 use Rattle.formula.specs.Mirror.Bytes.{byte_at, type_at, skip_end}

@@ -1,6 +1,5 @@
 -- Lists of operands, and a whole formula, as the code reads them.
-use Rattle.std.specs.Prelude.{ℕ, zero, suc, ◌+◌, ◌-◌, ◌*◌, ◌<◌, ◌≤◌, ◌≡◌, List, Bool, true, false, length, ltb, leb, eqb}
-use Rattle.std.proofs.Math.Option.{Option, some, none}
+use Rattle.std.specs.Prelude.{ℕ, zero, suc, ◌+◌, ◌-◌, ◌*◌, ◌<◌, ◌≤◌, ◌≡◌, List, Bool, true, false, length, ltb, eqb}
 use Rattle.std.specs.Int.Bits.{bit_and}
 use Rattle.formula.specs.Pick.{pick}
 use Rattle.formula.specs.Mirror.PackedTable.{own, first, rest, root_row, count_of, binds_of}

@@ -1,5 +1,5 @@
 -- What the functions of the file reader answer, on bytes and places; and what they leave in the places.
-use Rattle.std.specs.Prelude.{ℕ, ◌+◌, ◌-◌, ◌≡◌, List, [], length, get_or, drop, ltb, leb, eqb}
+use Rattle.std.specs.Prelude.{ℕ, ◌+◌, ◌≡◌, List, [], length, get_or, drop, ltb, leb, eqb}
 use Rattle.refusal.specs.Refusal.{refused}
 use Rattle.formula.specs.Reading.{Parsed, got, not_got, on_got}
 use Rattle.formula.specs.Pick.{pick}

@@ -3,11 +3,6 @@ use Rattle.variations.proofs.Answering.{key_law}
 use borrow.Author.Rules.{rules}
 use Rattle.variations.proofs.key_is.Statement.{statement}
 use Rattle.variations.proofs.key_is.Tie as tie
-use Rattle.variations.proofs.key_is.Reads as reads
-use Rattle.variations.proofs.key_is.Lts as lts
-use Rattle.formula.proofs.table.field_of.Reads as field-of-reads
-use Rattle.keys.proofs.rows.row_is.Reads as row-is-reads
-use Rattle.keys.proofs.table.key_at.Reads as key-at-reads
 
 pub key_is_spec : {M : Type 1} → statement M
 key_is_spec =

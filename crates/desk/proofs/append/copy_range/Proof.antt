@@ -8,19 +8,19 @@ use borrow.Author.Rules.{rules}
 use Rattle.desk.proofs.append.copy_range.Statement.{statement}
 use Rattle.desk.proofs.append.copy_range.Tie as tie
 
-abbrev invariant-loop : tie.invariant-loop
-invariant-loop s from end out₀ to i₀ j₀ out i j =
+abbrev invariant-loop-i : tie.invariant-loop-i
+invariant-loop-i s from end out₀ to i₀ j₀ out i j =
     (sets out j (slice i end s) ≡ sets out₀ to (slice from end s)) × (i ≤ end) × (j + (end - i) ≤ length out) × (length out ≡ length out₀)
 
-abbrev decreases-loop : tie.decreases-loop
-decreases-loop s from end out₀ to i₀ j₀ out i j = end - i
+abbrev decreases-loop-i : tie.decreases-loop-i
+decreases-loop-i s from end out₀ to i₀ j₀ out i j = end - i
 
 pub copy_range_spec : {M : Type 1} → statement M
 copy_range_spec =
     tie.close
     (tie.spec
-    invariant-loop
-    decreases-loop
+    invariant-loop-i
+    decreases-loop-i
     (λ c. search rules)
     (λ c. search rules)
     (λ c. search rules)

@@ -2,9 +2,6 @@ use Rattle.keys.specs.Mirror.Ranges.{constants}
 use borrow.Author.Rules.{rules}
 use Rattle.keys.proofs.ranges.same_constant.Statement.{statement}
 use Rattle.keys.proofs.ranges.same_constant.Tie as tie
-use Rattle.keys.proofs.ranges.same_constant.Reads as reads
-use Rattle.keys.proofs.ranges.same_constant.Lts as lts
-use Rattle.formula.proofs.equal.same_range.Reads as same-range-reads
 
 -- src/ranges.rt:41:1
 returns : tie.Need-returns

@@ -2,8 +2,6 @@ use Rattle.keys.proofs.Laws.{meeting}
 use borrow.Author.Rules.{rules}
 use Rattle.keys.proofs.rows.is_met.Statement.{statement}
 use Rattle.keys.proofs.rows.is_met.Tie as tie
-use Rattle.keys.proofs.rows.is_met.Reads as reads
-use Rattle.keys.proofs.rows.is_met.Lts as lts
 
 pub is_met_spec : {M : Type 1} → statement M
 is_met_spec =

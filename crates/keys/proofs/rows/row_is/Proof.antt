@@ -2,11 +2,6 @@ use Rattle.keys.proofs.Laws.{rowings}
 use borrow.Author.Rules.{rules}
 use Rattle.keys.proofs.rows.row_is.Statement.{statement}
 use Rattle.keys.proofs.rows.row_is.Tie as tie
-use Rattle.keys.proofs.rows.row_is.Reads as reads
-use Rattle.keys.proofs.rows.row_is.Lts as lts
-use Rattle.formula.proofs.table.field_of.Reads as field-of-reads
-use Rattle.formula.proofs.equal.same_range.Reads as same-range-reads
-use Rattle.keys.proofs.rows.relation_is.Reads as relation-is-reads
 
 pub row_is_spec : {M : Type 1} → statement M
 row_is_spec =

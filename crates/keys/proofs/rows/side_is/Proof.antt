@@ -2,10 +2,6 @@ use Rattle.keys.proofs.Laws.{sidings}
 use borrow.Author.Rules.{rules}
 use Rattle.keys.proofs.rows.side_is.Statement.{statement}
 use Rattle.keys.proofs.rows.side_is.Tie as tie
-use Rattle.keys.proofs.rows.side_is.Reads as reads
-use Rattle.keys.proofs.rows.side_is.Lts as lts
-use Rattle.keys.proofs.ranges.same_constant.Reads as same-constant-reads
-use Rattle.formula.proofs.equal.same_range.Reads as same-range-reads
 
 pub side_is_spec : {M : Type 1} → statement M
 side_is_spec = tie.close (tie.spec (λ c κs. search rules) (λ c. search (rules, sidings) depth 7) (λ c κs. search rules) (λ c. search (rules, sidings) depth 7))

@@ -2,8 +2,6 @@ use Rattle.keys.proofs.Laws.{keyed}
 use borrow.Author.Rules.{rules}
 use Rattle.keys.proofs.table.key_at.Statement.{statement}
 use Rattle.keys.proofs.table.key_at.Tie as tie
-use Rattle.keys.proofs.table.key_at.Reads as reads
-use Rattle.keys.proofs.table.key_at.Lts as lts
 
 pub key_at_spec : {M : Type 1} → statement M
 key_at_spec =

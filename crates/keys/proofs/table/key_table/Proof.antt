@@ -3,8 +3,6 @@ use Rattle.keys.specs.Keys.{rows_of}
 use Rattle.keys.specs.Mirror.PackedKeys.{key_table}
 use Rattle.keys.proofs.table.key_table.Statement.{statement}
 use Rattle.keys.proofs.table.key_table.Tie as tie
-use Rattle.keys.proofs.table.key_table.Reads as reads
-use Rattle.keys.proofs.table.key_table.Lts as lts
 
 -- the constant array is the table
 returns : tie.Need-returns

@@ -2,10 +2,6 @@ use Rattle.reader.proofs.NodeLaws.{names}
 use borrow.Author.Rules.{rules}
 use Rattle.reader.proofs.node.name_at.Statement.{statement}
 use Rattle.reader.proofs.node.name_at.Tie as tie
-use Rattle.reader.proofs.node.name_at.Reads as reads
-use Rattle.reader.proofs.node.name_at.Lts as lts
-use Rattle.formula.proofs.table.ident_type.Reads as ident-type-reads
-use Rattle.formula.proofs.table.wide.Reads as wide-reads
 
 pub name_at_spec : {M : Type 1} → statement M
 name_at_spec =

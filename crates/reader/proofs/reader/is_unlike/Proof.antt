@@ -2,9 +2,6 @@ use Rattle.reader.proofs.ReaderLaws.{marks}
 use borrow.Author.Rules.{rules}
 use Rattle.reader.proofs.reader.is_unlike.Statement.{statement}
 use Rattle.reader.proofs.reader.is_unlike.Tie as tie
-use Rattle.reader.proofs.reader.is_unlike.Reads as reads
-use Rattle.reader.proofs.reader.is_unlike.Lts as lts
-use Rattle.reader.proofs.shape.same_shape.Reads as same-shape-reads
 
 pub is_unlike_spec : {M : Type 1} → statement M
 is_unlike_spec =

@@ -2,9 +2,6 @@ use Rattle.reader.proofs.ReaderLaws.{marks}
 use borrow.Author.Rules.{rules}
 use Rattle.reader.proofs.reader.judge.Statement.{statement}
 use Rattle.reader.proofs.reader.judge.Tie as tie
-use Rattle.reader.proofs.reader.judge.Reads as reads
-use Rattle.reader.proofs.reader.judge.Lts as lts
-use Rattle.reader.proofs.reader.is_unlike.Reads as is-unlike-reads
 
 pub judge_spec : {M : Type 1} → statement M
 judge_spec = tie.close (tie.spec (λ c. search (rules, marks) depth 7) (λ c κs. search rules) (λ c. search (rules, marks) depth 7) (λ c. search (rules, marks) depth 7))

@@ -22,8 +22,8 @@ abbrev same_shape_below : ℕ → In 3 same-shape-kinds.ps
 same_shape_below t =
     and 3 same-shape-kinds.ps (falls 3 same-shape-kinds.ps ◌<◌ μ-same-shape t) same-shape.Pre
 
-pub +same-shape-spec : {M : Type 1} → statement M
-+same-shape-spec = close μ-same-shape λ t. same-shape-lts.spec (
+pub +same_shape_spec : {M : Type 1} → statement M
++same_shape_spec = close μ-same-shape λ t. same-shape-lts.spec (
   leaf-ends-reads.Asked,
   leaf-ends-reads.Learnt,
   are-pairs-reads.Asked,

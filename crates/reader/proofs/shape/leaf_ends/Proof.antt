@@ -2,10 +2,6 @@ use borrow.Author.Rules.{rules}
 use Rattle.reader.proofs.ShapeLaws.{shapes}
 use Rattle.reader.proofs.shape.leaf_ends.Statement.{statement}
 use Rattle.reader.proofs.shape.leaf_ends.Tie as tie
-use Rattle.reader.proofs.shape.leaf_ends.Reads as reads
-use Rattle.reader.proofs.shape.leaf_ends.Lts as lts
-use Rattle.formula.proofs.skip.skip.Reads as skip-reads
-use Rattle.formula.proofs.skip.type_at.Reads as type-at-reads
 
 pub leaf_ends_spec : {M : Type 1} → statement M
 leaf_ends_spec =

@@ -6,18 +6,18 @@ use borrow.Author.Rules.{rules}
 use Rattle.sequent.proofs.file.check_types.Statement.{statement}
 use Rattle.sequent.proofs.file.check_types.Tie as tie
 
-abbrev invariant-loop : tie.invariant-loop
-invariant-loop s t left₀ p₀ left p = check_of (types_at s left p) ≡ check_of (types_at s t 8)
+abbrev invariant-loop-left : tie.invariant-loop-left
+invariant-loop-left s t left₀ p₀ left p = check_of (types_at s left p) ≡ check_of (types_at s t 8)
 
-abbrev decreases-loop : tie.decreases-loop
-decreases-loop s t left₀ p₀ left p = left
+abbrev decreases-loop-left : tie.decreases-loop-left
+decreases-loop-left s t left₀ p₀ left p = left
 
 pub check_types_spec : {M : Type 1} → statement M
 check_types_spec =
     tie.close
     (tie.spec
-    invariant-loop
-    decreases-loop
+    invariant-loop-left
+    decreases-loop-left
     (λ c. search (rules, type_bytes) depth 7)
     (λ c. search (rules, type_bytes) depth 7)
     (λ c. search rules)

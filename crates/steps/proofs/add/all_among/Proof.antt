@@ -5,18 +5,18 @@ use lib.ListN.{length}
 use Rattle.steps.proofs.add.all_among.Statement.{statement}
 use Rattle.steps.proofs.add.all_among.Tie as tie
 
-abbrev invariant-loop : tie.invariant-loop
-invariant-loop unselected u_starts n added a_starts m i₀ i = (n < length u_starts) × (m < length a_starts) × AllAmongLeft unselected u_starts n added a_starts m i
+abbrev invariant-loop-i : tie.invariant-loop-i
+invariant-loop-i unselected u_starts n added a_starts m i₀ i = (n < length u_starts) × (m < length a_starts) × AllAmongLeft unselected u_starts n added a_starts m i
 
-abbrev decreases-loop : tie.decreases-loop
-decreases-loop unselected u_starts n added a_starts m i₀ i = n - i
+abbrev decreases-loop-i : tie.decreases-loop-i
+decreases-loop-i unselected u_starts n added a_starts m i₀ i = n - i
 
 pub all_among_spec : {M : Type 1} → statement M
 all_among_spec =
     tie.close
     (tie.spec
-    invariant-loop
-    decreases-loop
+    invariant-loop-i
+    decreases-loop-i
     (λ c. (search rules, search rules, search (rules, all_amongs) depth 7))
     (λ c. search rules)
     (λ c. search rules)

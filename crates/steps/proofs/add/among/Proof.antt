@@ -5,18 +5,18 @@ use lib.ListN.{length}
 use Rattle.steps.proofs.add.among.Statement.{statement}
 use Rattle.steps.proofs.add.among.Tie as tie
 
-abbrev invariant-loop : tie.invariant-loop
-invariant-loop list starts n x a e i₀ i = (n < length starts) × AmongLeft list starts n x a e i
+abbrev invariant-loop-i : tie.invariant-loop-i
+invariant-loop-i list starts n x a e i₀ i = (n < length starts) × AmongLeft list starts n x a e i
 
-abbrev decreases-loop : tie.decreases-loop
-decreases-loop list starts n x a e i₀ i = n - i
+abbrev decreases-loop-i : tie.decreases-loop-i
+decreases-loop-i list starts n x a e i₀ i = n - i
 
 pub among_spec : {M : Type 1} → statement M
 among_spec =
     tie.close
     (tie.spec
-    invariant-loop
-    decreases-loop
+    invariant-loop-i
+    decreases-loop-i
     (λ c. (search rules, search (rules, amongs) depth 7))
     (λ c. search rules)
     (λ c. search rules)

@@ -2,10 +2,6 @@ use Rattle.variations.proofs.Laws.{sources}
 use borrow.Author.Rules.{rules}
 use Rattle.variations.proofs.sources.facts_at.Statement.{statement}
 use Rattle.variations.proofs.sources.facts_at.Tie as tie
-use Rattle.variations.proofs.sources.facts_at.Reads as reads
-use Rattle.variations.proofs.sources.facts_at.Lts as lts
-use Rattle.formula.proofs.skip.type_at.Reads as type-at-reads
-use Rattle.variations.proofs.sources.literal_at.Reads as literal-at-reads
 
 pub facts_at_spec : {M : Type 1} → statement M
 facts_at_spec =

@@ -2,8 +2,6 @@ use Rattle.variations.proofs.Laws.{numbers}
 use borrow.Author.Rules.{rules}
 use Rattle.variations.proofs.sources.member_number.Statement.{statement}
 use Rattle.variations.proofs.sources.member_number.Tie as tie
-use Rattle.variations.proofs.sources.member_number.Reads as reads
-use Rattle.variations.proofs.sources.member_number.Lts as lts
 
 pub member_number_spec : {M : Type 1} → statement M
 member_number_spec = tie.close (tie.spec (λ c. search (rules, numbers) depth 7) (λ c. search (rules, numbers) depth 7) (λ c. search (rules, numbers) depth 7))

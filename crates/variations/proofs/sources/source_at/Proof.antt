@@ -3,10 +3,6 @@ use Rattle.variations.proofs.Answering.{source_law}
 use borrow.Author.Rules.{rules}
 use Rattle.variations.proofs.sources.source_at.Statement.{statement}
 use Rattle.variations.proofs.sources.source_at.Tie as tie
-use Rattle.variations.proofs.sources.source_at.Reads as reads
-use Rattle.variations.proofs.sources.source_at.Lts as lts
-use Rattle.keys.proofs.strip.strip_at.Reads as strip-at-reads
-use Rattle.variations.proofs.sources.source_by.Reads as source-by-reads
 
 pub source_at_spec : {M : Type 1} → statement M
 source_at_spec = tie.close (tie.spec (λ c κs. search rules) (λ c κs. search rules) (λ c. (search (rules, source_is, source_law) depth 7, search (rules, source_is) depth 7)))
