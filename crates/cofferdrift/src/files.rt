@@ -106,7 +106,7 @@ fn without_number(error: &str) -> &str {
 }
 
 // A line on standard error: the name of a file, and why it cannot be read or written.
-fn fail(rt: &impl Runtime, name: &[u8], error: io::Error) {
+fn fail(rt: &(impl Eprint + Alloc), name: &[u8], error: io::Error) {
     if let Ok(said) = error.to_string(rt.alloc()) {
         let name = text(name).unwrap_or("a name that is no text");
         let words = without_number(said.as_str());

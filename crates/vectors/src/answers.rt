@@ -60,11 +60,19 @@ fn reading(s: &[u8], types: &[u8], sort: Sort, start: usize) -> Reply {
     }
 }
 
+// What the first two acts ask for.
+fn sort_of(act: usize) -> Sort {
+    match act {
+        0 => Sort::Predicate,
+        _ => Sort::Expression,
+    }
+}
+
 // A formula is asked alone, and behind three bytes: another answer there is no answer.
-fn of_formula(line: &[u8], work: &[u8], sort: Sort) -> Reply {
+fn of_formula(act: usize, line: &[u8], work: &[u8]) -> Reply {
     let types = buffer(line, work, 1, 3);
-    let x = reading(buffer(line, work, 2, 3), types, sort, 0);
-    let y = reading(buffer(line, work, 2, 0), types, sort, 3);
+    let x = reading(buffer(line, work, 2, 3), types, sort_of(act), 0);
+    let y = reading(buffer(line, work, 2, 0), types, sort_of(act), 3);
     if x.last == y.last {
         if x.a == y.a {
             if x.b == y.b {
@@ -102,8 +110,7 @@ fn of_read(s: &[u8]) -> Reply {
 // The acts that answer with numbers, by their place among the names.
 pub fn answer(act: usize, line: &[u8], work: &[u8]) -> Reply {
     match act {
-        0 => of_formula(line, work, Sort::Predicate),
-        1 => of_formula(line, work, Sort::Expression),
+        0 | 1 => of_formula(act, line, work),
         2 => of_equal(line, work),
         _ => of_read(buffer(line, work, 1, 3)),
     }
