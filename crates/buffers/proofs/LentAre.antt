@@ -8,7 +8,7 @@ use native.Mathlib.Omega.{arith}
 use lib.ListN.{length, get_or, drop, length-append, drop_of_length-le}
 use lib.Dec.{ltb, leb}
 use borrow.Author.Tests.{leb-false, ltb-false, lt-leb, le-ltb}
-use Rattle.formula.specs.Reading.{Parsed, got, not_got}
+use Rattle.formula.specs.Reading.{got}
 use Rattle.formula.specs.Tree.{Tree, encode}
 use Rattle.formula.specs.Formula.{Formula}
 use Rattle.formula.specs.declared.Sort.TheVariants as sort

@@ -1,6 +1,6 @@
 -- Too much for a sequent: the answer is 14.
 use Prim.Native.Nat.{ℕ, ◌+◌}
-use mathlib.Core.Logic.{◌⊎◌, ⊎_elim}
+use mathlib.Core.Logic.{⊎_elim}
 use mathlib.Core.Path.{◌≡◌, refl}
 use mathlib.Core.Bool.{Bool, true, false, ◌||◌}
 use mathlib.Core.List.{◌++◌}

@@ -1,5 +1,5 @@
 -- Document 01: formulas and lists lent with an act. "A lent formula uses its sequent's identifiers. A lent list is a count byte 0..64 (else 7, place 0) and its formulas; an empty buffer is 1."
-use Rattle.std.specs.Prelude.{ℕ, zero, suc, ◌+◌, List, [], ◌∷◌, ◌++◌, length, get_or, ltb, leb}
+use Rattle.std.specs.Prelude.{ℕ, zero, suc, List, [], ◌∷◌, ◌++◌, length, get_or, ltb, leb}
 use Rattle.formula.specs.Reading.{Parsed, got, not_got, on_got}
 use Rattle.formula.specs.Pick.{pick}
 use Rattle.formula.specs.Tree.{Tree}

@@ -7,19 +7,19 @@ use borrow.Author.Rules.{rules}
 use Rattle.buffers.proofs.write.put_flags.Statement.{statement}
 use Rattle.buffers.proofs.write.put_flags.Tie as tie
 
-abbrev invariant-loop : tie.invariant-loop
-invariant-loop out₀ places v h i₀ out i =
+abbrev invariant-loop-i : tie.invariant-loop-i
+invariant-loop-i out₀ places v h i₀ out i =
     (with_flags (h - i) places v i out ≡ with_flags v.hypotheses places v 0 out₀) × (i ≤ h) × (h ≡ v.hypotheses) × (length out ≡ length out₀)
 
-abbrev decreases-loop : tie.decreases-loop
-decreases-loop out₀ places v h i₀ out i = h - i
+abbrev decreases-loop-i : tie.decreases-loop-i
+decreases-loop-i out₀ places v h i₀ out i = h - i
 
 pub put_flags_spec : {M : Type 1} → statement M
 put_flags_spec =
     tie.close
     (tie.spec
-    invariant-loop
-    decreases-loop
+    invariant-loop-i
+    decreases-loop-i
     (λ c. (search (rules, writes), search rules, search rules, search rules))
     (λ c. search rules)
     (λ c. search rules)
