@@ -19,7 +19,7 @@ use refusal::Said;
 use steps::Act;
 
 // The acts that take three lists.
-#[derive(Drop)]
+#[derive(Clone, Copy)]
 pub enum Kind {
     Modify,
     Rewrite,
