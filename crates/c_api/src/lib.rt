@@ -58,6 +58,7 @@ fn told_of(o: Outcome) -> Said
 // Reads the formula of s that starts at `start`: a predicate if `expression` is 0, else an expression.
 // `types` has a byte for each identifier.
 #[unsafe(no_mangle)]
+#[tactic(auto, unfolding(crate::specs::Formula::read_here))]
 pub extern "C" fn cofferdrift_read_formula(
     s: &[u8],
     types: &[u8],

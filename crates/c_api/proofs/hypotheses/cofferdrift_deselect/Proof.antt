@@ -1,7 +1,0 @@
-use borrow.Author.Rules.{rules}
-use Rattle.c_api.proofs.Told.{tells}
-use Rattle.c_api.proofs.hypotheses.cofferdrift_deselect.Statement.{statement}
-use Rattle.c_api.proofs.hypotheses.cofferdrift_deselect.Tie as tie
-
-pub cofferdrift_deselect_spec : {M : Type 1} → statement M
-cofferdrift_deselect_spec = tie.close (tie.spec (λ c κs. search rules) (λ c κs. search rules) (λ c. search rules) (λ c. search (rules, tells) depth 7))
