@@ -41,7 +41,7 @@ fn act_opened(
     out: &mut [u8],
 ) -> Done
     requires rows_value { rows.now ≡ table }
-    requires fact { Open s.now places.old v }
+    requires opened { Open s.now places.old v }
     requires desk_len { length desk.old ≡ 60000 }
     ensures { Answers (lists_outcome kind s.now a.now b.now c.now (length out.old)) out.old out.new result }
 {

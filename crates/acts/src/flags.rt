@@ -18,7 +18,7 @@ use steps::flags::{change, differs};
 
 // An opened sequent and a formula that is read; only flags change, so nothing is laid out anew.
 fn flag_read(s: &[u8], v: View, b: &[u8], k: Act, places: &[usize; 65], out: &mut [u8]) -> Done
-    requires fact { Open s.now places.now v }
+    requires opened { Open s.now places.now v }
     requires lent { IsLent (types_in s.now v) b.now }
     ensures { Answers (flag_outcome (flag_by k) s.now b.now (length out.old)) out.old out.new result }
 {
@@ -37,7 +37,7 @@ fn flag_opened(
     out: &mut [u8],
 ) -> Done
     requires rows_value { rows.now ≡ table }
-    requires fact { Open s.now places.now v }
+    requires opened { Open s.now places.now v }
     ensures { Answers (flag_outcome (flag_by k) s.now b.now (length out.old)) out.old out.new result }
 {
     let end = 8 + v.identifiers;

@@ -59,7 +59,7 @@ fn modify_add(
     desk: &mut [u8],
     out: &mut [u8],
 ) -> Done
-    requires fact { Open s.now places.old v }
+    requires opened { Open s.now places.old v }
     requires desk_len { length desk.old ≡ 60000 }
     requires starts_len { length starts.now ≡ 195 }
     requires few { Few n }
@@ -91,7 +91,7 @@ pub fn modify_read(
     desk: &mut [u8],
     out: &mut [u8],
 ) -> Done
-    requires fact { Open s.now places.old v }
+    requires opened { Open s.now places.old v }
     requires desk_len { length desk.old ≡ 60000 }
     requires starts_len { length starts.now ≡ 195 }
     requires few { Few n }

@@ -48,7 +48,7 @@ fn rewrite_there(
     desk: &mut [u8],
     out: &mut [u8],
 ) -> Done
-    requires fact { Open s.now places.old v }
+    requires opened { Open s.now places.old v }
     requires desk_len { length desk.old ≡ 60000 }
     requires starts_len { length starts.now ≡ 195 }
     requires few { Few n }
@@ -79,7 +79,7 @@ pub fn rewrite_read(
     desk: &mut [u8],
     out: &mut [u8],
 ) -> Done
-    requires fact { Open s.now places.old v }
+    requires opened { Open s.now places.old v }
     requires desk_len { length desk.old ≡ 60000 }
     requires starts_len { length starts.now ≡ 195 }
     requires few { Few n }

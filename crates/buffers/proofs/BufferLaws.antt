@@ -29,7 +29,7 @@ use Rattle.formula.specs.declared.Reading.{Reading}
 use Rattle.formula.specs.declared.Reading.TheVariants as reading
 use Rattle.sequent.proofs.SeenIs.{of_seen, PredicateStands, predicate_stood}
 use Rattle.buffers.proofs.LentAre.{formulas_bytes, lent_is}
-use Rattle.sequent.proofs.FileLaws.{all_bytes, reading-ends}
+use Rattle.sequent.proofs.FileLaws.{all_bytes, reading_ends}
 use Rattle.sequent.proofs.OpenLaws.{check_stopped, check_fine, not_is}
 
 pub some_bytes : (b : List ℕ) → (length b ≡ 0 → ⊥) → 0 < length b
@@ -162,7 +162,7 @@ module _ (types b : List ℕ) (n : ℕ) (starts : List ℕ) (p j : ℕ) (G : Gon
         stand = G.stand;
       }
 
-pub ruleset gone = (reading-ends, gone_none, gone_more, gone_stops, gone_all)
+pub ruleset gone = (reading_ends, gone_none, gone_more, gone_stops, gone_all)
 
 -- ---- a list
 module _ (types : List ℕ) (most : ℕ) (b : List ℕ) where

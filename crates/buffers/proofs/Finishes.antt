@@ -89,9 +89,9 @@ module _ (d l : List ℕ) (v : View) (types : List ℕ) (hs : List Hypothesis) (
   A : List ℕ
   A = (HD ++ types) ++ hypotheses_bytes hs
 
-  A-long : length A ≡ v.end
+  a_long : length A ≡ v.end
   unfolding A HD
-  A-long = simp length-append (omega (arith, H.end_is))
+  a_long = simp length-append (omega (arith, H.end_is))
 
   o₁ : List ℕ
   o₁ = sets o 0 (slice 0 v.end d)
@@ -152,7 +152,7 @@ module _ (d l : List ℕ) (v : View) (types : List ℕ) (hs : List Hypothesis) (
       ∙ sym (append_assoc (HD ++ types) (hypotheses_bytes hs) (drop v.end o))
 
   o₃_long : length o₃ ≡ length o
-  o₃_long = ap length o₃_is ∙ length-append A (drop v.end o) ∙ omega (arith, A-long, length-drop v.end o, F.in_room)
+  o₃_long = ap length o₃_is ∙ length-append A (drop v.end o) ∙ omega (arith, a_long, length-drop v.end o, F.in_room)
 
   abbrev q : Sequent
   q = sequent_of types hs goal
@@ -170,7 +170,7 @@ module _ (d l : List ℕ) (v : View) (types : List ℕ) (hs : List Hypothesis) (
       let bs = slice a e g in
       let b≡ : length bs ≡ e - a = ap length (range_slice g a e goal R) ∙ range_count g a e goal R in
       let n≡ : v.end + length bs ≡ length (encode_sequent q) = ap (λ (n : ℕ). v.end + n) b≡ ∙ sym file_long in
-      let a≡ = A-long in
+      let a≡ = a_long in
       let r : o₃ ≡ A ++ drop (length A) o = o₃_is ∙ ap (λ (n : ℕ). A ++ drop n o) (sym a≡) in
       sets_split bs o₃ v.end (omega (arith, o₃_long, F.in_room))
       ∙ ap (λ (x : List ℕ). x ++ (bs ++ drop (v.end + length bs) o₃)) (ap (take v.end) r ∙ take_at A (drop (length A) o) v.end a≡)

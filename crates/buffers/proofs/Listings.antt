@@ -16,10 +16,10 @@ pub encode_some : (x : Tree) → 0 < length (encode x)
 unfolding encode
 encode_some (node k xs) = omega arith
 
-first-start : (p : ℕ) (xs : List Tree) → get_or (starts_from p xs) 0 0 ≡ p
+first_start : (p : ℕ) (xs : List Tree) → get_or (starts_from p xs) 0 0 ≡ p
 unfolding starts_from
-first-start p [] = refl
-first-start p (x ∷ xs) = refl
+first_start p [] = refl
+first_start p (x ∷ xs) = refl
 
 module _ (b : List ℕ) where
   pub stands_range : (p : ℕ) (x : Tree) → take (length (encode x)) (drop p b) ≡ encode x → Range b p (p + length (encode x)) x
@@ -36,7 +36,7 @@ module _ (b : List ℕ) where
   ranges_from [] p i starts f s = tt
   ranges_from (x ∷ xs) p i starts f s =
       let a : get_or starts i 0 ≡ p = ap (λ (m : ℕ). get_or starts m 0) (sym (add-zero i)) ∙ f 0 (omega arith) in
-      let e : get_or starts (i + 1) 0 ≡ p + length (encode x) = f 1 (omega arith) ∙ first-start (p + length (encode x)) xs in
+      let e : get_or starts (i + 1) 0 ≡ p + length (encode x) = f 1 (omega arith) ∙ first_start (p + length (encode x)) xs in
       (rw (a, e) (stands_range p x s.0), ranges_from xs (p + length (encode x)) (i + 1) starts (λ k h. later k h) s.1)
     where
       later : (k : ℕ) → k ≤ length xs → get_or starts (i + 1 + k) 0 ≡ get_or (starts_from (p + length (encode x)) xs) k 0

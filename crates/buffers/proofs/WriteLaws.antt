@@ -86,8 +86,8 @@ pub low_big : (n : ℕ) → 256 ≤ n → 0 ≡ low_byte n
 unfolding low_byte
 low_big n h = simp (le-ltb _ _ h)
 
-pub flags-start : (l : List ℕ) (v : View) (o : List ℕ) → with_flags (v.hypotheses - 0) l v 0 o ≡ with_flags v.hypotheses l v 0 o
-flags-start l v o = ap (λ (n : ℕ). with_flags n l v 0 o) (sub-zero v.hypotheses)
+pub flags_start : (l : List ℕ) (v : View) (o : List ℕ) → with_flags (v.hypotheses - 0) l v 0 o ≡ with_flags v.hypotheses l v 0 o
+flags_start l v o = ap (λ (n : ℕ). with_flags n l v 0 o) (sub-zero v.hypotheses)
 
 module _ (l : List ℕ) (v : View) (h i : ℕ) (o z : List ℕ) (g : with_flags (h - i) l v i o ≡ z) where
   pub flags_done : i ≤ h → h ≤ i → o ≡ z
@@ -98,4 +98,4 @@ module _ (l : List ℕ) (v : View) (h i : ℕ) (o z : List ℕ) (g : with_flags 
   unfolding with_flags
   flags_go p b o' b≡ e = let k : h - i ≡ suc (h - (i + 1)) = omega arith in rw (e, b≡) (rw k at g)
 
-pub ruleset writes = (put_out, low_small, low_big, flags-start, flags_done, flags_go)
+pub ruleset writes = (put_out, low_small, low_big, flags_start, flags_done, flags_go)

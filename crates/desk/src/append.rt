@@ -12,7 +12,7 @@ use super::{Appended, View};
 pub fn copy_range(s: &[u8], from: usize, end: usize, out: &mut [u8], to: usize)
     requires from_le_end { from ≤ end }
     requires end_in_bounds { end ≤ length s.now }
-    requires from_in_bounds { to + (end - from) ≤ length out.old }
+    requires to_in_bounds { to + (end - from) ≤ length out.old }
     ensures { out.new ≡ sets out.old to (slice from end s.now) }
 {
     let mut i = from;

@@ -15,7 +15,7 @@ use Rattle.formula.specs.declared.Sort.{Sort}
 use Rattle.formula.specs.declared.Reading.TheVariants as reading
 use Rattle.formula.proofs.Places.{AllBytes}
 use Rattle.formula.proofs.Round.{reads}
-use Rattle.formula.proofs.Back.{read-ends, read_is}
+use Rattle.formula.proofs.Back.{read_ends, read_is}
 use Rattle.formula.proofs.OneFormula.{one_formula, encode_one}
 use Rattle.formula.proofs.Typed.{right_typed, typed_right}
 
@@ -44,7 +44,7 @@ module _ (s types : List ℕ) (σ : Sort) (start : ℕ) where
       go (got x m) q e =
           let i = read_inv x (first_wrong (types_of types) start x) m y n e in
           let R = read_is s (length types) (start + 1024) 32 0 σ start x m q B in
-          let E = read-ends s (length types) (start + 1024) 32 0 σ start x m q in
+          let E = read_ends s (length types) (start + 1024) 32 0 σ start x m q in
           let E₀ = E.0 in
           let E₁ = E.1 in
           let E₂ = E.2 in

@@ -179,8 +179,8 @@ module _ (s : List ℕ) (t limit : ℕ) where
     read_formula = subst (OfGot (IsFormula l d σ at)) e (formula_read l d σ at)
 
     -- where it ends, of any numbers
-    pub read-ends : (q ≡ at + length (encode x)) × (q ≤ limit) × (q ≤ length s)
-    read-ends = (read_formula.ends, read_formula.in_limit, read_formula.in_bytes)
+    pub read_ends : (q ≡ at + length (encode x)) × (q ≤ limit) × (q ≤ length s)
+    read_ends = (read_formula.ends, read_formula.in_limit, read_formula.in_bytes)
 
     -- formed, but for the size of the numbers inside
     pub read_formed : Shaped l t d σ x
@@ -194,8 +194,8 @@ module _ (s : List ℕ) (t limit : ℕ) where
     pub read_formulas : AreFormulas l d σ ρ at n xs q
     read_formulas = subst (OfGot (AreFormulas l d σ ρ at n)) e (operands_read l d (formula_read l d) n σ ρ at)
 
-    pub all-read-ends : (q ≡ at + length (encodes xs)) × (at ≤ limit → q ≤ limit) × (at ≤ length s → q ≤ length s)
-    all-read-ends = (read_formulas.ends, read_formulas.in_limit, read_formulas.in_bytes)
+    pub all_read_ends : (q ≡ at + length (encodes xs)) × (at ≤ limit → q ≤ limit) × (at ≤ length s → q ≤ length s)
+    all_read_ends = (read_formulas.ends, read_formulas.in_limit, read_formulas.in_bytes)
 
     pub all_read_are : AllBytes s → (size xs ≡ n) × AllFormed l t d σ ρ xs × (drop at s ≡ encodes xs ++ drop q s)
     all_read_are B = (read_formulas.so_many, all_formed xs l t d σ ρ read_formulas.shaped (read_formulas.words_in B), read_formulas.stand B)

@@ -4,8 +4,8 @@ ghost use Rattle.formula.specs.Mirror.Ranges.{same_at, same_range};
 
 // Whether the n bytes from a on in s are those from b on in t.
 pub fn same(s: &[u8], a: usize, t: &[u8], b: usize, n: usize) -> bool
-    requires n_in_bounds { a + n ≤ length s.now }
-    requires n_in_bounds_2 { b + n ≤ length t.now }
+    requires s_in_bounds { a + n ≤ length s.now }
+    requires t_in_bounds { b + n ≤ length t.now }
     ensures { result ≡ same_at n s.now a t.now b }
 {
     let mut i = a;

@@ -133,9 +133,9 @@ abbrev Any : Tree → Type 0
 Any x = Unit {0}
 
 module _ (j : Sources) (desk₀ places₀ : List ℕ) (v : View) (b starts : List ℕ) (n : ℕ) where
-  pub infer-start : InferLeft j desk₀ places₀ v b starts n desk₀ places₀ v false 0
+  pub infer_start : InferLeft j desk₀ places₀ v b starts n desk₀ places₀ v false 0
   unfolding InferLeft
-  infer-start types hs xs H few L =
+  infer_start types hs xs H few L =
       walk_starts (infer_work hs j) xs (hs, false) b starts n (InferredSo hs desk₀ places₀ v false types) L (record { held = H; few = few; extends = extends_same hs; again_is = refl })
 
   module _ (desk places : List ℕ) (w : View) (again : Bool) (i : ℕ) (I : InferLeft j desk₀ places₀ v b starts n desk places w again i) where
@@ -164,11 +164,11 @@ module _ (j : Sources) (desk₀ places₀ : List ℕ) (v : View) (b starts : Lis
           let o = rw q at (O desk₀ places₀ types hs t.0 y H few h.extends h.held h.few Y) in
           too_much_grown types _ Any _ (infers_grown Any hs j.selected (hides_inferred j) rest (infer_one hs j.selected (hides_inferred j) y t.0) (each Any rest (λ z. tt))) o)
 
-    pub infer-ends : n ≤ i → InferAllIs j desk₀ places₀ v b starts n desk places (inferred.Done w again)
+    pub infer_ends : n ≤ i → InferAllIs j desk₀ places₀ v b starts n desk places (inferred.Done w again)
     unfolding InferLeft InferAllIs InferTo infer_all reselects
-    infer-ends l types hs xs H few L =
+    infer_ends l types hs xs H few L =
         walk_ends (infer_work hs j) xs (hs, false) b starts n i (InferredSo hs desk places w again types) (I types hs xs H few L)
         (λ t. Holds desk places w types t.0 × (length t.0 ≤ 64) × (again ≡ t.1)) l
         (λ t h. (h.held, h.few, h.again_is ∙ sym (or_no t.1)))
 
-pub ruleset inferring = (infer-start, infer_goes, infer_stops, infer-ends)
+pub ruleset inferring = (infer_start, infer_goes, infer_stops, infer_ends)

@@ -58,9 +58,9 @@ SourcesLeft desk places v b starts n j i =
     → Walk (weigh hs) xs no_source b starts n i (λ k. j ≡ k)
 
 module _ (desk places : List ℕ) (v : View) (b starts : List ℕ) (n : ℕ) where
-  pub sources-start : SourcesLeft desk places v b starts n no_source 0
+  pub sources_start : SourcesLeft desk places v b starts n no_source 0
   unfolding SourcesLeft
-  sources-start types hs xs H few L = walk_starts (weigh hs) xs no_source b starts n (λ k. no_source ≡ k) L refl
+  sources_start types hs xs H few L = walk_starts (weigh hs) xs no_source b starts n (λ k. no_source ≡ k) L refl
 
   module _ (j : Sources) (i : ℕ) (S : SourcesLeft desk places v b starts n j i) where
     pub sources_go : (at : ℕ) (k : Sources) → i < n → at ≡ find_at desk places v.hypotheses b (get_or starts i 0) (get_or starts (i + 1) 0) → WeighIs v at j k → SourcesLeft desk places v b starts n k (i + 1)
@@ -75,7 +75,7 @@ module _ (desk places : List ℕ) (v : View) (b starts : List ℕ) (n : ℕ) whe
     unfolding SourcesLeft WeighAllIs weigh
     sources_end l types hs xs H few L = walk_ends (weigh hs) xs no_source b starts n i (λ t. j ≡ t) (S types hs xs H few L) (λ r. j ≡ r) l (λ t e. e)
 
-pub ruleset sources = (source_absent, source_past, source_there, sources-start, sources_go, sources_end)
+pub ruleset sources = (source_absent, source_past, source_there, sources_start, sources_go, sources_end)
 
 -- ---- S, D and "if a source is absent"
 and_assoc : (a b c : Bool) → ((a && b) && c) ≡ (a && (b && c))

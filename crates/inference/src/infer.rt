@@ -134,7 +134,7 @@ pub fn infer_all(
 ) -> Inferred
     requires desk_len { length desk.old ≡ 60000 }
     requires n_in_bounds { n < length starts.now }
-    ensures desk_len_2 { length desk.new ≡ 60000 }
+    ensures desk_len_after { length desk.new ≡ 60000 }
     ensures infer_all_is { InferAllIs j desk.old places.old v list.now starts.now n desk.new places.new result }
 {
     let mut w = v;

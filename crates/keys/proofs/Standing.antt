@@ -54,14 +54,14 @@ module _ (s : List ℕ) (a e : ℕ) (x : Tree) (R : Range s a e x) where
   pub range_there : There s a x
   range_there = (drop (a + (e - a)) s, parted s a (e - a) ∙ rw R.bytes_are refl)
 
-  pub range-ends : a + length (encode x) ≡ e
-  range-ends =
+  pub range_ends : a + length (encode x) ≡ e
+  range_ends =
       let f = R.from_to in
       let i = R.inside in
       let n = ap length (sym R.bytes_are) ∙ length-take-le (e - a) (drop a s) (rw length-drop (omega arith)) in omega arith
 
   pub range_bytes : Bytes s a e (encode x)
-  range_bytes = record { long = range-ends; in_bounds = R.inside; bytes_are = ap (take (length (encode x))) range_there.1 ∙ take_at (encode x) range_there.0 (length (encode x)) refl }
+  range_bytes = record { long = range_ends; in_bounds = R.inside; bytes_are = ap (take (length (encode x))) range_there.1 ∙ take_at (encode x) range_there.0 (length (encode x)) refl }
 
 -- ---- codes by their bytes
 code_by : (k j : Code) → byte_of k ≡ byte_of j → with_number k 0 ≡ with_number j 0

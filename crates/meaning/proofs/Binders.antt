@@ -23,7 +23,7 @@ use Rattle.meaning.specs.Operators.{all_true, some_true}
 use Rattle.meaning.specs.Fold.{fold}
 use Rattle.meaning.specs.Valuation.{interval, Valuation}
 use Rattle.meaning.specs.Meaning.{Sense, choices, truth_at, int_at, guarded, collect, eval}
-use Rattle.meaning.proofs.Lists.{All, All-map, some_inj, step_inv, each_some}
+use Rattle.meaning.proofs.Lists.{All, all_map, some_inj, step_inv, each_some}
 use Rattle.meaning.proofs.Operands.{is_truth, is_int}
 use Rattle.meaning.proofs.Members.{In, member_in, in_member, concat_in, in_concat, each_in, each_from, in_each, all_in, in_all, some_in, in_some, collect_in, in_collect}
 use Rattle.meaning.proofs.Interval.{interval_in, in_interval}
@@ -70,12 +70,12 @@ module _ {types : List ℕ} (ν : Valuation types) where
   block_choice : (n : ℕ) (ρ zs : List ℤ) → Block n zs → In (reverse zs ++ ρ) (choices I n ρ)
   block_choice n ρ zs b =
       subst (λ (σ : List ℤ). In σ (choices I n ρ)) (reverse_aux-eq zs ρ)
-      (in_choices I n ρ zs b.as_many (All-map zs (λ z p. in_interval ν.lo ν.hi ν.ordered z p.0 p.1) b.within))
+      (in_choices I n ρ zs b.as_many (all_map zs (λ z p. in_interval ν.lo ν.hi ν.ordered z p.0 p.1) b.within))
 
   choice_block : (n : ℕ) (ρ σ : List ℤ) → In σ (choices I n ρ) → (zs : List ℤ) × Block n zs × (σ ≡ reverse zs ++ ρ)
   choice_block n ρ σ m =
       let c = choices_in I n ρ σ m in
-      (c.0, record { as_many = c.1; within = All-map c.0 (λ z q. interval_in ν.lo ν.hi ν.ordered z q) c.2 }, c.3 ∙ reverse_aux-eq c.0 ρ)
+      (c.0, record { as_many = c.1; within = all_map c.0 (λ z q. interval_in ν.lo ν.hi ν.ordered z q) c.2 }, c.3 ∙ reverse_aux-eq c.0 ρ)
 
   -- bound 0 is the last declared, ..
   pub innermost : (zs : List ℤ) (z : ℤ) (ρ : List ℤ) → eval ν (node (bound 0) nil) (reverse (zs ++ (z ∷ [])) ++ ρ) ≡ some (int z)

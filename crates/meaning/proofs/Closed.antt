@@ -22,7 +22,7 @@ use Rattle.meaning.specs.Value.{truth, set, as_truth}
 use Rattle.meaning.specs.Operators.{relation, function, several, all_true, some_true}
 use Rattle.meaning.specs.Valuation.{interval, Valuation}
 use Rattle.meaning.specs.Meaning.{Sense, choices, truth_at, guarded, collect, binder, values, sense, eval}
-use Rattle.meaning.proofs.Lists.{All, All2, All-map, All2-length}
+use Rattle.meaning.proofs.Lists.{All, All2, all_map, all2_length}
 use Rattle.meaning.proofs.Relate.{relate, typing, typed_fold}
 use Rattle.meaning.proofs.NodeRows.{made_number, rel_row_law, fun_row_law, many_row_law}
 use Rattle.meaning.proofs.Has.{choices_length}
@@ -52,10 +52,10 @@ module _ {A : Type 0} (f g : A → List ℤ) (l : List A) where
 
   binder_alike : (b : Bind) (ss : List Sense) → All Agree ss → binder b ss (map f l) ≡ binder b ss (map g l)
   binder_alike C.all [] a = refl
-  binder_alike C.all (p ∷ []) a = ap (λ o. o >>= λ bs. some (truth (all_true bs))) (each_alike (truth_at p) f g l (All-map l (λ x e. ap (λ o. o >>= as_truth) e) a.0))
+  binder_alike C.all (p ∷ []) a = ap (λ o. o >>= λ bs. some (truth (all_true bs))) (each_alike (truth_at p) f g l (all_map l (λ x e. ap (λ o. o >>= as_truth) e) a.0))
   binder_alike C.all (p ∷ q ∷ ss) a = refl
   binder_alike C.ex [] a = refl
-  binder_alike C.ex (p ∷ []) a = ap (λ o. o >>= λ bs. some (truth (some_true bs))) (each_alike (truth_at p) f g l (All-map l (λ x e. ap (λ o. o >>= as_truth) e) a.0))
+  binder_alike C.ex (p ∷ []) a = ap (λ o. o >>= λ bs. some (truth (some_true bs))) (each_alike (truth_at p) f g l (all_map l (λ x e. ap (λ o. o >>= as_truth) e) a.0))
   binder_alike C.ex (p ∷ q ∷ ss) a = refl
   binder_alike C.compr [] a = refl
   binder_alike C.compr (p ∷ []) a = refl
@@ -88,7 +88,7 @@ module _ {types : List ℕ} (ν : Valuation types) where
   qu_local b d n ss a ρ ρ₁ ρ₂ l =
       ap (binder b ss) (choices_append I n ρ ρ₁)
       ∙ binder_alike (λ σ. σ ++ ρ₁) (λ σ. σ ++ ρ₂) (choices I n ρ) b ss
-      (All-map ss (λ s h. All-map (choices I n ρ) (λ σ e. h σ ρ₁ ρ₂ (e ∙ ap (λ (m : ℕ). m + n) l)) (choices_length I n ρ)) a)
+      (all_map ss (λ s h. all_map (choices I n ρ) (λ σ e. h σ ρ₁ ρ₂ (e ∙ ap (λ (m : ℕ). m + n) l)) (choices_length I n ρ)) a)
       ∙ sym (ap (binder b ss) (choices_append I n ρ ρ₂))
 
   abbrev Γ : List Ty
@@ -126,7 +126,7 @@ module _ {types : List ℕ} (ν : Valuation types) where
       let n = length σs in
       let os = map (λ σ. σ (inner d k n)) σs in
       let w = (pick_some (well_made Γ d k n && right k os) (result_of (row_of k).result Γ (number_of k n) os) τ e).0 in
-      let z = All2-length Shut σs ss a in
+      let z = all2_length Shut σs ss a in
       node_local d k ss (rw (← z) (and_left (well_made Γ d k n) _ w)) (rw (← z) (operands_shut (inner d k n) (among (row_of k).first) (row_of k).rest σs ss a (and_right (well_made Γ d k n) _ w)))
 
   pub local : (x : Tree) (d : ℕ) (τ : Ty) → type_of Γ d x ≡ some τ → Local d (eval ν x)

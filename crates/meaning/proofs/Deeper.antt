@@ -16,7 +16,7 @@ use Rattle.formula.specs.Formed.{inner}
 use Rattle.formula.specs.Typing.{result_of, right, well_made, type_of}
 use Rattle.formula.proofs.Choices.{and_left, and_right, pick_some}
 use Rattle.formula.proofs.Typed.{may_some}
-use Rattle.meaning.proofs.Lists.{All2, All2-length}
+use Rattle.meaning.proofs.Lists.{All2, all2_length}
 use Rattle.meaning.proofs.Relate.{relate, typing, typed_fold}
 use Rattle.meaning.proofs.NodeRows.{made_arity, made_number}
 
@@ -53,7 +53,7 @@ module _ (Γ : List Ty) where
       let m = made_deeper Γ k n d e h (and_left (well_made Γ d k n) _ w.0) in
       let r = and_right (well_made Γ d k n) _ w.0 in
       let o = operands_up (inner d k n) (inner e k n) (omega arith) (among (row_of k).first) (row_of k).rest σs υs a r in
-      rw (← All2-length Up σs υs a, o, m, r) w.1
+      rw (← all2_length Up σs υs a, o, m, r) w.1
 
   pub deeper_type : (x : Tree) (d : ℕ) (τ : Ty) → type_of Γ d x ≡ some τ → (e : ℕ) → d ≤ e → type_of Γ e x ≡ some τ
   deeper_type x d τ q e h = sym (typed_fold x Γ e) ∙ relate (typing Γ) (typing Γ) Up node_up x d τ (typed_fold x Γ d ∙ q) e h

@@ -25,7 +25,7 @@ use Rattle.meaning.specs.Operators.{constant, signed, relation, function, severa
 use Rattle.meaning.specs.Fold.{fold, folds}
 use Rattle.meaning.specs.Valuation.{interval, Valuation}
 use Rattle.meaning.specs.Meaning.{Sense, choices, truth_at, int_at, guarded, collect, binder, values, sense, eval, Meaning}
-use Rattle.meaning.proofs.Lists.{All, All2, All-map, All-concat, some_inj, two_steps, each_some, nth_there}
+use Rattle.meaning.proofs.Lists.{All, All2, all_map, all_concat, some_inj, two_steps, each_some, nth_there}
 use Rattle.meaning.proofs.Relate.{folds_size}
 use Rattle.meaning.proofs.NodeRows.{made_arity, made_number, con_arity, con_result, rel_row_law, fun_row_law, many_row_law, many_count}
 use Rattle.meaning.proofs.Operands.{Has, read_truth, read_int, relation_has, function_has, several_has, then_has}
@@ -33,7 +33,7 @@ use Rattle.meaning.proofs.Operands.{Has, read_truth, read_int, relation_has, fun
 -- ---- choices
 pub choices_length : (I : List ℤ) (n : ℕ) (ρ : List ℤ) → All (λ σ. length σ ≡ length ρ + n) (choices I n ρ)
 choices_length I zero ρ = (omega arith, tt)
-choices_length I (suc n) ρ = All-concat (λ σ. length σ ≡ length ρ + suc n) (λ z. choices I n (z ∷ ρ)) I (λ z. All-map (choices I n (z ∷ ρ)) (λ σ e. e ∙ omega arith) (choices_length I n (z ∷ ρ)))
+choices_length I (suc n) ρ = all_concat (λ σ. length σ ≡ length ρ + suc n) (λ z. choices I n (z ∷ ρ)) I (λ z. all_map (choices I n (z ∷ ρ)) (λ σ e. e ∙ omega arith) (choices_length I n (z ∷ ρ)))
 
 -- ---- readings that have a value of a type at every d values
 abbrev pub At : ℕ → Sense → Ty → Type 0
@@ -85,7 +85,7 @@ module _ (ρs : List (List ℤ)) where
   quantified : (f : List Bool → Bool) (s : Sense) (τ : Ty) → among? (kind_of τ) (one T.prop ∷ []) ≡ true → All (λ ρ. Has (s ρ) τ) ρs
       → Has (each (truth_at s) ρs >>= λ bs. some (truth (f bs))) (base T.prop)
   quantified f s τ e h =
-      let k = each_some (truth_at s) ρs (All-map ρs (λ ρ. truth_at_law s ρ τ e) h) in
+      let k = each_some (truth_at s) ρs (all_map ρs (λ ρ. truth_at_law s ρ τ e) h) in
       (truth (f k.0), rw k.1, refl)
 
   both_at : (p s : Sense) (τ υ : Ty) → among? (kind_of τ) (one T.prop ∷ []) ≡ true → among? (kind_of υ) (one T.int ∷ []) ≡ true
@@ -152,7 +152,7 @@ module _ {types : List ℕ} (ν : Valuation types) where
 
     -- all choices of n more variables
     extended : (n : ℕ) (s : Sense) (σ : Ty) → At (d + n) s σ → (ρ : List ℤ) → length ρ ≡ d → All (λ r. Has (s r) σ) (choices (interval ν.lo ν.hi) n ρ)
-    extended n s σ h ρ l = All-map (choices (interval ν.lo ν.hi) n ρ) (λ r e. h r (e ∙ ap (λ (m : ℕ). m + n) l)) (choices_length (interval ν.lo ν.hi) n ρ)
+    extended n s σ h ρ l = all_map (choices (interval ν.lo ν.hi) n ρ) (λ r e. h r (e ∙ ap (λ (m : ℕ). m + n) l)) (choices_length (interval ν.lo ν.hi) n ρ)
 
     quant_has : (f : List Bool → Bool) (n : ℕ) (s : Sense) (σ : Ty) → At (d + n) s σ → right (qu C.all n) (some σ ∷ []) ≡ true → base T.prop ≡ τ → (ρ : List ℤ) → length ρ ≡ d
         → Has (each (truth_at s) (choices (interval ν.lo ν.hi) n ρ) >>= λ bs. some (truth (f bs))) τ

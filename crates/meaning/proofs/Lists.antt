@@ -19,23 +19,23 @@ All2 R [] (y ∷ ys) = ⊥
 All2 R (x ∷ xs) [] = ⊥
 All2 R (x ∷ xs) (y ∷ ys) = R x y × All2 R xs ys
 
-pub All-map : {A : Type 0} {P Q : A → Type 0} (l : List A) → ((x : A) → P x → Q x) → All P l → All Q l
-All-map [] f a = tt
-All-map (x ∷ xs) f a = (f x a.0, All-map xs f a.1)
+pub all_map : {A : Type 0} {P Q : A → Type 0} (l : List A) → ((x : A) → P x → Q x) → All P l → All Q l
+all_map [] f a = tt
+all_map (x ∷ xs) f a = (f x a.0, all_map xs f a.1)
 
-pub All-append : {A : Type 0} (P : A → Type 0) (l r : List A) → All P l → All P r → All P (l ++ r)
-All-append P [] r a b = b
-All-append P (x ∷ xs) r a b = (a.0, All-append P xs r a.1 b)
+pub all_append : {A : Type 0} (P : A → Type 0) (l r : List A) → All P l → All P r → All P (l ++ r)
+all_append P [] r a b = b
+all_append P (x ∷ xs) r a b = (a.0, all_append P xs r a.1 b)
 
-pub All-concat : {A B : Type 0} (P : B → Type 0) (f : A → List B) (l : List A) → ((x : A) → All P (f x)) → All P (concat_map f l)
-All-concat P f [] h = tt
-All-concat P f (x ∷ xs) h = All-append P (f x) (concat_map f xs) (h x) (All-concat P f xs h)
+pub all_concat : {A B : Type 0} (P : B → Type 0) (f : A → List B) (l : List A) → ((x : A) → All P (f x)) → All P (concat_map f l)
+all_concat P f [] h = tt
+all_concat P f (x ∷ xs) h = all_append P (f x) (concat_map f xs) (h x) (all_concat P f xs h)
 
-pub All2-length : {A B : Type 0} (R : A → B → Type 0) (xs : List A) (ys : List B) → All2 R xs ys → length xs ≡ length ys
-All2-length R [] [] a = refl
-All2-length R [] (y ∷ ys) a = absurd a
-All2-length R (x ∷ xs) [] a = absurd a
-All2-length R (x ∷ xs) (y ∷ ys) a = ap suc (All2-length R xs ys a.1)
+pub all2_length : {A B : Type 0} (R : A → B → Type 0) (xs : List A) (ys : List B) → All2 R xs ys → length xs ≡ length ys
+all2_length R [] [] a = refl
+all2_length R [] (y ∷ ys) a = absurd a
+all2_length R (x ∷ xs) [] a = absurd a
+all2_length R (x ∷ xs) (y ∷ ys) a = ap suc (all2_length R xs ys a.1)
 
 -- ---- something is there
 abbrev pub is_some : {A : Type 0} → Option A → Bool

@@ -20,7 +20,7 @@ use Rattle.formula.specs.declared.Sort.{Sort}
 use Rattle.reader.specs.declared.Got.{Got}
 use Rattle.reader.specs.declared.Answer.{Answer}
 use Rattle.formula.proofs.Wants.{Wants}
-use Rattle.formula.proofs.Back.{read-ends}
+use Rattle.formula.proofs.Back.{read_ends}
 use Rattle.reader.proofs.Goings.{answered, gives, answered_same, answered_on, mark_of, marked, mark_more, mark_none}
 
 -- the kind of a type, as a bit
@@ -67,7 +67,7 @@ module _ (s types : List ℕ) (start l d : ℕ) where
         let τ = O.has σ p x m e in
         let hx = head_type (types_of types) x in
         let wx = first_wrong (types_of types) p x in
-        let z : m ≡ p + length (encode x) = (read-ends s (length types) (start + 1024) l d σ p x m e).0 in
+        let z : m ≡ p + length (encode x) = (read_ends s (length types) (start + 1024) l d σ p x m e).0 in
         let b = pick (not (may (among ks) hx)) parent (pick (eqb bad 0) (mark_of wx) bad) in
         let u : bad_after s types others want (suc n) p parent o.ty bad (mark_of wx) ≡ b = rw t (mark_is want ks σ W (suc n) p bad (mark_of wx) hx τ.0 τ.1) in
         rw (next_is o.ty, u) (more b)
@@ -81,6 +81,6 @@ module _ (s types : List ℕ) (start l d : ℕ) where
     operands_are zero want ks σ W p bad i = ap (gives p) (mark_none bad)
     operands_are (suc n) want ks σ W p bad i =
         O.goes want (among ks) σ p W i _ _ (λ x m o e t. one_more n want ks σ W p bad x m o e t
-        (λ b. operands_are n others js ρ R m b (let z = (read-ends s (length types) (start + 1024) l d σ p x m e).0 in omega (arith, z))))
+        (λ b. operands_are n others js ρ R m b (let z = (read_ends s (length types) (start + 1024) l d σ p x m e).0 in omega (arith, z))))
         ∙ answered_same (formula_here σ p) _ _ (λ x m e. sym (answered_on (operands_by formula_here n ρ ρ m) (λ xs q. got (x ▹ xs) q) (marks ks p bad)))
         ∙ sym (answered_on (formula_here σ p) (λ x m. on_got (operands_by formula_here n ρ ρ m) (λ xs q. got (x ▹ xs) q)) (marks ks p bad))

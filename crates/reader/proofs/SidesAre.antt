@@ -20,7 +20,7 @@ use Rattle.formula.specs.declared.Sort.{Sort}
 use Rattle.reader.specs.declared.Answer.{Answer}
 use Rattle.formula.proofs.Choices.{never}
 use Rattle.formula.proofs.Wants.{Wants, same_wants, one_hot}
-use Rattle.formula.proofs.Back.{read-ends}
+use Rattle.formula.proofs.Back.{read_ends}
 use Rattle.formula.proofs.ReadStands.{read_stands}
 use Rattle.formula.proofs.SameType.{same_test, eq_ty→eq, eq→eq_ty}
 use Rattle.reader.proofs.ShapeIs.{shape_is}
@@ -92,8 +92,8 @@ module _ (s types : List ℕ) (start l d : ℕ) (O : OperandIs s types start l d
       → bad_after s types 0 (bit (kind_of τ)) 1 m p (bit (kind_of υ)) bad below ≡ pick (eq_ty τ υ) (pick (eqb bad 0) below bad) p
   unfolding bad_after unlike
   second_mark σ ρ x m y q τ υ e f a c bad below =
-      let i = read-ends s (length types) (start + 1024) l d σ p x m e in
-      let j = read-ends s (length types) (start + 1024) l d ρ m y q f in
+      let i = read_ends s (length types) (start + 1024) l d σ p x m e in
+      let j = read_ends s (length types) (start + 1024) l d ρ m y q f in
       let i₀ = i.0 in
       let i₁ = i.1 in
       let j₁ = j.1 in
@@ -116,7 +116,7 @@ module _ (s types : List ℕ) (start l d : ℕ) (O : OperandIs s types start l d
       let hx = head_type (types_of types) x in
       let wx = first_wrong (types_of types) p x in
       let wy = first_wrong (types_of types) m y in
-      let z : m ≡ p + length (encode x) = (read-ends s (length types) (start + 1024) l d σ p x m e).0 in
+      let z : m ≡ p + length (encode x) = (read_ends s (length types) (start + 1024) l d σ p x m e).0 in
       let u : first_wrong_in (types_of types) p (x ▹ y ▹ nil) ≡ or_else wx wy = ap (or_else wx) (or_none (first_wrong (types_of types) (p + length (encode x)) y) ∙ ap (λ (v : ℕ). first_wrong (types_of types) v y) (sym z)) in
       let v : may_all (among ks) as_first (head_types (types_of types) (x ▹ y ▹ nil)) ≡ (may (among ks) hx && eq_ty τ υ) = two_may ks hx (head_type (types_of types) y) τ υ a c in
       second_mark σ σ x m y q τ υ e f a c (pick (not (may (among ks) hx)) p (mark_of wx)) (mark_of wy)
@@ -130,7 +130,7 @@ module _ (s types : List ℕ) (start l d : ℕ) (O : OperandIs s types start l d
   unfolding list_with next_want
   after_first want ks σ W x m o e t =
       let T = O.has σ p x m e in
-      let i = (read-ends s (length types) (start + 1024) l d σ p x m e).0 in
+      let i = (read_ends s (length types) (start + 1024) l d σ p x m e).0 in
       let hx = head_type (types_of types) x in
       let wx = first_wrong (types_of types) p x in
       let u : o.ty ≡ bit (kind_of T.0) = t ∙ ap type_bit T.1 in

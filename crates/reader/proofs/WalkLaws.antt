@@ -159,8 +159,8 @@ module _ (s rows types : List ℕ) (end : ℕ) (from w : Walk) (I : OnWay s rows
   pub way_rows : rows ≡ table
   way_rows = I.rows_are
 
-  pub way-ends : (b : ℕ) → w.left ≡ 0 → b ≡ first_mark w.kept w.bad → answer.Read (record { next = w.at; bad = b }) ≡ read_from s types end from
-  way-ends b h q = ap (λ (v : ℕ). answer.Read (record { next = w.at; bad = v })) q ∙ sym (from_none s types end w h) ∙ I.reads
+  pub way_ends : (b : ℕ) → w.left ≡ 0 → b ≡ first_mark w.kept w.bad → answer.Read (record { next = w.at; bad = b }) ≡ read_from s types end from
+  way_ends b h q = ap (λ (v : ℕ). answer.Read (record { next = w.at; bad = v })) q ∙ sym (from_none s types end w h) ∙ I.reads
 
   module _ (m : w.left ≡ 0 → ⊥) where
     module _ (y : Refusal) (y≡ : y ≡ refusal_at s (length types) w.d w.level w.want w.at) where
@@ -232,4 +232,4 @@ module _ (s rows types : List ℕ) (end : ℕ) (from w : Walk) (I : OnWay s rows
 pub into_falls : (l t : ℕ) → l * 2 + 2 ≡ t → l * 2 + 1 < t
 into_falls l t e = omega arith
 
-pub ruleset turns = (way_starts, stood_made, less_next, way_rows, way-ends, way_past, way_refused, way_name, turn_more, turn_some, way_leaf, way_deep, going_below, way_last, less_last, call_falls, way_no, way_on, into_falls)
+pub ruleset turns = (way_starts, stood_made, less_next, way_rows, way_ends, way_past, way_refused, way_name, turn_more, turn_some, way_leaf, way_deep, going_below, way_last, less_last, call_falls, way_no, way_on, into_falls)

@@ -132,9 +132,9 @@ module _ (s : List ℕ) (p : ℕ) (z : Checked) where
 pub ruleset type_bytes = (types_end, types_out, types_wrong, types_go)
 
 -- ---- a predicate
-pub reading-ends : (s types : List ℕ) (p : ℕ) (r : Reading) → r ≡ read_formula s types sort.Predicate p → r ≡ end_of (predicate_at s types p)
+pub reading_ends : (s types : List ℕ) (p : ℕ) (r : Reading) → r ≡ read_formula s types sort.Predicate p → r ≡ end_of (predicate_at s types p)
 unfolding predicate_at read_formula
-reading-ends s types p r r≡ = r≡ ∙ go (tree_at s types sort.Predicate p)
+reading_ends s types p r r≡ = r≡ ∙ go (tree_at s types sort.Predicate p)
   where
     go : (z : Parsed Tree) → end_or_refusal z ≡ end_of z
     go (got x e) = refl
@@ -163,7 +163,7 @@ module _ {A : Type 0} (b : List ℕ) (z : Parsed A) (r : Reading) (r≡ : r ≡ 
   pub last_fine : (e : ℕ) → r ≡ reading.Read e → length b ≤ e → checked.Fine ≡ check_of (to_end b z)
   last_fine e q h = simp (le-ltb _ _ h) at (sym (ap (last_of (length b)) q) ∙ ap (last_of (length b)) r≡ ∙ last_of_law b z)
 
-pub ruleset lasts = (reading-ends, last_stops, last_more, last_fine)
+pub ruleset lasts = (reading_ends, last_stops, last_more, last_fine)
 
 -- ---- a hypothesis
 module _ (s types places : List ℕ) (i p : ℕ) where
@@ -190,7 +190,7 @@ module _ (s types places : List ℕ) (i p : ℕ) where
         unfolding item_at
         item_read l = simp (lt-leb _ _ h, le-ltb _ _ k, ← r≡, q, ← j≡, le-ltb _ _ l)
 
-pub ruleset items = (reading-ends, item_out, item_flag, item_stops, item_twice, item_read)
+pub ruleset items = (reading_ends, item_out, item_flag, item_stops, item_twice, item_read)
 
 -- ---- masks
 module _ (m i r : ℕ) (on : Bool) where

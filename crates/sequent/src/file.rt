@@ -207,7 +207,7 @@ fn hypotheses(
 ) -> SequentRead
     requires rows_value { rows.now ≡ table }
     requires types_in_bounds { 8 + length types.now ≤ length s.now }
-    requires s_value { take (length types.now) (drop 8 s.now) ≡ types.now }
+    requires types_stand { take (length types.now) (drop 8 s.now) ≡ types.now }
     requires h_bound { h ≤ 64 }
     ensures { HypothesesAre s.now types.now h places.new result }
 {
@@ -242,7 +242,7 @@ fn hypotheses(
 fn rest(s: &[u8], rows: &[u64; 51], types: &[u8], h: usize, places: &mut [usize; 65]) -> SequentRead
     requires rows_value { rows.now ≡ table }
     requires types_in_bounds { 8 + length types.now ≤ length s.now }
-    requires s_value { take (length types.now) (drop 8 s.now) ≡ types.now }
+    requires types_stand { take (length types.now) (drop 8 s.now) ≡ types.now }
     requires h_bound { h ≤ 64 }
     ensures { StageIs s.now places.new (rest_at s.now types.now h) result }
 {

@@ -42,9 +42,9 @@ unfoldable pub AmongLeft : List ℕ → List ℕ → ℕ → List ℕ → ℕ �
 AmongLeft b starts n x a e i = (xs : List Tree) (y : Tree) → Listing b starts n 0 xs → Range x a e y → Walk (among_work y) xs tt b starts n i Same
 
 module _ (b starts : List ℕ) (n : ℕ) (x : List ℕ) (a e : ℕ) where
-  pub among-start : AmongLeft b starts n x a e 0
+  pub among_start : AmongLeft b starts n x a e 0
   unfolding AmongLeft
-  among-start xs y L R = walk_starts (among_work y) xs tt b starts n Same L tt
+  among_start xs y L R = walk_starts (among_work y) xs tt b starts n Same L tt
 
   module _ (i : ℕ) (I : AmongLeft b starts n x a e i) where
     module _ (l : i < n) (r : Bool) (S : r ≡ same_range b (get_or starts i 0) (get_or starts (i + 1) 0) x a e) where
@@ -59,11 +59,11 @@ module _ (b starts : List ℕ) (n : ℕ) (x : List ℕ) (a e : ℕ) where
       unfolding AmongLeft AmongIs among
       among_found t xs y L R = walk_stops (among_work y) xs tt b starts n i Same (I xs y L R) (λ s. true ≡ s) l (λ z rest u Z w. rw (here y z R Z true t) refl)
 
-    pub among-ends : n ≤ i → AmongIs b starts n x a e false
+    pub among_ends : n ≤ i → AmongIs b starts n x a e false
     unfolding AmongLeft AmongIs among
-    among-ends l xs y L R = walk_ends (among_work y) xs tt b starts n i Same (I xs y L R) (λ s. false ≡ s) l (λ u w. refl)
+    among_ends l xs y L R = walk_ends (among_work y) xs tt b starts n i Same (I xs y L R) (λ s. false ≡ s) l (λ u w. refl)
 
-pub ruleset amongs = (among-start, among_goes, among_found, among-ends)
+pub ruleset amongs = (among_start, among_goes, among_found, among_ends)
 
 -- ---- each of a list among another
 abbrev all_work : List Tree → List Tree → Unit {0} → Bool
@@ -87,11 +87,11 @@ module _ (u u_starts : List ℕ) (n : ℕ) (a a_starts : List ℕ) (m : ℕ) whe
       unfolding AllAmongLeft AllAmongIs AmongIs all_among
       all_not t us xs U A = walk_stops (all_work xs) us tt u u_starts n i Same (I us xs U A) (λ s. false ≡ s) l (λ z rest v Z w. rw (sym (S xs z A Z) ∙ t) refl)
 
-    pub all-ends : n ≤ i → AllAmongIs u u_starts n a a_starts m true
+    pub all_ends : n ≤ i → AllAmongIs u u_starts n a a_starts m true
     unfolding AllAmongLeft AllAmongIs all_among
-    all-ends l us xs U A = walk_ends (all_work xs) us tt u u_starts n i Same (I us xs U A) (λ s. true ≡ s) l (λ v w. refl)
+    all_ends l us xs U A = walk_ends (all_work xs) us tt u u_starts n i Same (I us xs U A) (λ s. true ≡ s) l (λ v w. refl)
 
-pub ruleset all_amongs = (all_start, all_goes, all_not, all-ends)
+pub ruleset all_amongs = (all_start, all_goes, all_not, all_ends)
 
 -- ---- one formula added
 added_is : (b : Bool) (f : Flag) → flag_by (added_act b) f ≡ added_flag b f
@@ -156,9 +156,9 @@ module _ (desk₀ places₀ : List ℕ) (v : View) (a a_starts : List ℕ) (n : 
           walk_stops (add_all us) xs hs a a_starts n i (On desk places w types) (I types hs xs us H few A U) (TooMuch types) l
           (λ x rest now X h. too_much_grown types _ Any _ (adds_grown Any us rest (add_one us x now) (each Any rest (λ y. tt))) (rw t at (O types now us x h.0 h.1 X (K us x U X))))
 
-    pub add-ends : n ≤ i → AddAllIs desk₀ places₀ v a a_starts n u u_starts m desk places (appended.Done w)
+    pub add_ends : n ≤ i → AddAllIs desk₀ places₀ v a a_starts n u u_starts m desk places (appended.Done w)
     unfolding AddLeft AddAllIs StepTo add_all
-    add-ends l types hs xs us H few A U =
+    add_ends l types hs xs us H few A U =
         walk_ends (add_all us) xs hs a a_starts n i (On desk places w types) (I types hs xs us H few A U) (On desk places w types) l (λ now h. h)
 
-pub ruleset adding = (add_start, add_goes, add_stops, add-ends)
+pub ruleset adding = (add_start, add_goes, add_stops, add_ends)

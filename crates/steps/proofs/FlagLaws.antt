@@ -68,9 +68,9 @@ ChangeLeft k desk places v b starts n w i =
     → Walk (change_all (flag_by k)) xs hs b starts n i (λ ks. Holds desk places w types ks × (length ks ≤ 64))
 
 module _ (k : Act) (desk places : List ℕ) (v : View) (b starts : List ℕ) (n : ℕ) where
-  pub changes-start : ChangeLeft k desk places v b starts n v 0
+  pub changes_start : ChangeLeft k desk places v b starts n v 0
   unfolding ChangeLeft
-  changes-start types hs xs H few L = walk_starts (change_all (flag_by k)) xs hs b starts n _ L (H, few)
+  changes_start types hs xs H few L = walk_starts (change_all (flag_by k)) xs hs b starts n _ L (H, few)
 
   module _ (w : View) (i : ℕ) (I : ChangeLeft k desk places v b starts n w i) where
     pub changes_go : (u : View) → i < n → ChangeIs desk places w k b (get_or starts i 0) (get_or starts (i + 1) 0) u → ChangeLeft k desk places v b starts n u (i + 1)
@@ -83,7 +83,7 @@ module _ (k : Act) (desk places : List ℕ) (v : View) (b starts : List ℕ) (n 
     unfolding ChangeLeft ChangeAllIs change_all
     changes_end l types hs xs H few L = walk_ends (change_all (flag_by k)) xs hs b starts n i _ (I types hs xs H few L) (Holds desk places w types) l (λ now h. h.0)
 
-pub ruleset changing = (changes-start, changes_go, changes_end)
+pub ruleset changing = (changes_start, changes_go, changes_end)
 
 pub changes_long : (f : Flag → Flag) (xs : List Tree) (hs : List Hypothesis) → length (change_all f xs hs) ≡ length hs
 unfolding change_all

@@ -91,7 +91,7 @@ pub fn add_all(
     requires desk_len { length desk.old ≡ 60000 }
     requires n_in_bounds { n < length a_starts.now }
     requires m_in_bounds { m < length u_starts.now }
-    ensures desk_len_2 { length desk.new ≡ 60000 }
+    ensures desk_len_after { length desk.new ≡ 60000 }
     ensures add_all_is { AddAllIs desk.old places.old v added.now a_starts.now n unselected.now u_starts.now m desk.new places.new result }
 {
     let mut w = v;

@@ -38,7 +38,7 @@ use Rattle.variations.specs.declared.Keyed.{Keyed}
 use Rattle.variations.specs.declared.Keyed.TheVariants as keyed
 use Rattle.keys.proofs.TableIs.{group_of, count_is, lone_count, literal_count}
 use Rattle.keys.proofs.RowIs.{AskedBytes}
-use Rattle.keys.proofs.Standing.{There, some_bytes, first_byte, there_bytes, there_skip, range_there, range-ends, range_bytes}
+use Rattle.keys.proofs.Standing.{There, some_bytes, first_byte, there_bytes, there_skip, range_there, range_ends, range_bytes}
 use Rattle.keys.proofs.StripIs.{strip_is}
 use Rattle.variations.proofs.SourceIs.{rel_two, Sided, sided, sides_short, PartsAre, parts_are, shape_is, meets_is}
 use Rattle.variations.proofs.KeyAnswers.{relation_answers, lone_answers, none_answers}
@@ -135,7 +135,7 @@ made_says s types w starts x F R =
     let B = strip_is s types x 32 32 w.at starts F.type (omega arith) F.short F.formed T F.typed in
     let z = strip starts x in
     let p = (strip_from 32 s w.at starts).at in
-    let S = source_says_all s types p w.end z.value z.predicate 32 B.type B.there (B.ends ∙ range-ends s w.at w.end x R) B.short B.formed B.typed in
+    let S = source_says_all s types p w.end z.value z.predicate 32 B.type B.there (B.ends ∙ range_ends s w.at w.end x R) B.short B.formed B.typed in
     subst (λ (v : Bool). Says s (source_by s types (part p w.end) v) (entries_by (types_of types) z.value z.predicate (relation z.predicate))) (sym B.value_is) S
 
 pub source_law : (s types : List ℕ) (w : Part) (starts : Bool) (r : Source) → r ≡ source_at s types w starts → SourceIs s types w starts r
@@ -150,7 +150,7 @@ pub asked_law : (t : List ℕ) (from : ℕ) (r : Asked) → r ≡ asked_at t fro
 unfolding asked_at
 asked_law t from r e l n d end y F h R =
     let T = range_there t from end y R in
-    let k : skip_end t from ≡ end = there_skip t from y T l n d sort.Predicate F h ∙ range-ends t from end y R in
+    let k : skip_end t from ≡ end = there_skip t from y T l n d sort.Predicate F h ∙ range_ends t from end y R in
     (ap (λ (r : Asked). r.at) e, record { code_is = ap (λ (r : Asked). r.code) e ∙ code_there t from y T; stands = rw (e, k) R })
 
 asked_bytes : (t : List ℕ) (w : Tree) (y : Asked) → AskedOf t w y → AskedBytes t y (encode w)

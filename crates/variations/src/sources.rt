@@ -64,7 +64,7 @@ fn turned_round(c: usize) -> bool
 // The sides of the relation at w; l≥r is treated as r≤l, l>r as r<l.
 fn sides_at(s: &[u8], rows: &[u64; 51], w: Part) -> Sides
     requires rows_value { rows.now ≡ table }
-    requires at_value { relational (byte_at s.now w.at) ≡ true }
+    requires relation_at { relational (byte_at s.now w.at) ≡ true }
     ensures { result ≡ sides_at s.now w }
 {
     // the buffer's length bounds the places in it
@@ -197,7 +197,7 @@ fn related(
 ) -> Source
     requires rows_value { rows.now ≡ table }
     requires keys_value { keys.now ≡ key_table }
-    requires at_value { relational (byte_at s.now w.at) ≡ true }
+    requires relation_at { relational (byte_at s.now w.at) ≡ true }
     ensures { result ≡ related_by s.now types.now w value (sides_at s.now w) }
 {
     let z = sides_at(s, rows, w);
