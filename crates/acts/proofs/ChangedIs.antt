@@ -7,6 +7,7 @@ use native.Mathlib.Omega.{arith}
 use lib.ListN.{length, length-append}
 use lib.Dec.{eqb}
 use borrow.Author.Tests.{eq-eqb, eqb-true, not-false}
+use Rattle.std.proofs.Math.Bool.{or-true, or_assoc}
 use Rattle.formula.specs.Pick.{pick}
 use Rattle.formula.specs.Tree.{Tree, encode}
 use Rattle.desk.specs.Sequent.{Flag, Hypothesis, Sequent, is_hidden, is_selected}
@@ -52,20 +53,16 @@ no_further hs ks (x ∷ xs) e l =
     absurd (omega (arith, formulas_long hs, formulas_long ks, ap length e, length-append (formulas_of hs) (x ∷ xs)))
 
 module _ (q r : Sequent) (types_are : r.types ≡ q.types) (further : List Tree) (formulas_are : formulas_of r.hypotheses ≡ formulas_of q.hypotheses ++ further) where
+  abbrev hs : List Hypothesis
+  hs = q.hypotheses
+
+  abbrev ks : List Hypothesis
+  ks = r.hypotheses
+
   pub differs_is : differs q r ≡ (flags_differ q.hypotheses r.hypotheses || (not (eqb (length q.hypotheses) (length r.hypotheses)) || not (same q.goal r.goal)))
   unfolding differs encode_sequent same_bytes same
   differs_is = rw (types_are, eq-eqb (length q.types) (length q.types) refl, same_prefix q.types) (go (eqb (length hs) (length ks)) refl)
     where
-      hs : List Hypothesis
-      hs = q.hypotheses
-
-      ks : List Hypothesis
-      ks = r.hypotheses
-
-      any : (d : Bool) → true ≡ (d || true)
-      any true = refl
-      any false = refl
-
       morgan : (d b : Bool) → not (not d && b) ≡ (d || not b)
       morgan true b = refl
       morgan false b = refl
@@ -73,7 +70,7 @@ module _ (q r : Sequent) (types_are : r.types ≡ q.types) (further : List Tree)
       go : (b : Bool) → eqb (length hs) (length ks) ≡ b
           → not (b && same_bytes (hypotheses_bytes hs ++ encode q.goal) (hypotheses_bytes ks ++ encode r.goal)) ≡ (flags_differ hs ks || (not b || not (same_bytes (encode q.goal) (encode r.goal))))
       go true e = rw (same_hypotheses hs ks (encode q.goal) (encode r.goal) (no_further hs ks further formulas_are (eqb-true (length hs) (length ks) e))) (morgan (flags_differ hs ks) (same_bytes (encode q.goal) (encode r.goal)))
-      go false e = any (flags_differ hs ks)
+      go false e = sym (or-true (flags_differ hs ks))
 
   -- as the code asks it: the masks say of the flags all that matters, since another number of hypotheses is a change by itself
   pub differs_masks : differs q r
@@ -81,24 +78,14 @@ module _ (q r : Sequent) (types_are : r.types ≡ q.types) (further : List Tree)
       || (not (eqb (mask_of is_selected q.hypotheses) (mask_of is_selected r.hypotheses)) || not (same q.goal r.goal))))
   differs_masks = differs_is ∙ go (eqb (length hs) (length ks)) refl
     where
-      hs : List Hypothesis
-      hs = q.hypotheses
-
-      ks : List Hypothesis
-      ks = r.hypotheses
-
       first : (d c : Bool) → (d || (true || c)) ≡ true
       first true c = refl
       first false c = refl
 
-      regroup : (a b c : Bool) → ((a || b) || c) ≡ (a || (b || c))
-      regroup true b c = refl
-      regroup false b c = refl
-
       go : (b : Bool) → eqb (length hs) (length ks) ≡ b
           → (flags_differ hs ks || (not b || not (same q.goal r.goal)))
           ≡ (not b || (not (eqb (mask_of is_hidden hs) (mask_of is_hidden ks)) || (not (eqb (mask_of is_selected hs) (mask_of is_selected ks)) || not (same q.goal r.goal))))
-      go true e = rw (masks_differ hs ks (eqb-true (length hs) (length ks) e)) (regroup (not (eqb (mask_of is_hidden hs) (mask_of is_hidden ks))) (not (eqb (mask_of is_selected hs) (mask_of is_selected ks))) (not (same q.goal r.goal)))
+      go true e = rw (masks_differ hs ks (eqb-true (length hs) (length ks) e)) (or_assoc (not (eqb (mask_of is_hidden hs) (mask_of is_hidden ks))) (not (eqb (mask_of is_selected hs) (mask_of is_selected ks))) (not (same q.goal r.goal)))
       go false e = first (flags_differ hs ks) (not (same q.goal r.goal))
 
 -- ---- accepted sequents differ just if they are not equal

@@ -2,7 +2,7 @@
 --   ActsKeep      acts lose nothing, and give accepted sequents where there is room
 --   ChangedIs     when an act answers "changed"; an accepted sequent that does not differ is the same
 --   ViewLaws      views differ just if their sequents do
---   Ranges        the parts of an opened sequent and of a lent buffer
+--   Ranges        the parts of an opened sequent
 --   AnswerLaws    buffers read one after the other: the first refusal is the answer
 --   FlagLaws      an act on one flag
 --   RewriteLaws   rewrite, of lists that are read; ModifyLaws: modify

@@ -10,7 +10,7 @@ use Rattle.acts.specs.Acts.{differs}
 use Rattle.desk.specs.Mirror.Desk.{Holds}
 use Rattle.desk.specs.Mirror.Moves.{Extends}
 use Rattle.steps.specs.Mirror.Steps.{views_differ}
-use Rattle.desk.specs.declared.View.{View}
+use Rattle.desk.specs.declared.view.View.{View}
 use Rattle.formula.proofs.SameBytes.{same_refl}
 use Rattle.acts.proofs.ChangedIs.{differs_masks}
 

@@ -1,1 +1,1 @@
-pub mod Driver
+pub mod Answering

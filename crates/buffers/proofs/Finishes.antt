@@ -7,29 +7,28 @@ use native.Mathlib.Numerals.{add-one}
 use native.Mathlib.Nat.{add-zero, zero-add}
 use native.Mathlib.Omega.{arith}
 use lib.ListN.{length, take, drop, set, length-append, length-set, length-drop, take-append-drop}
-use lib.Seq.{take-add, take_at, take-suc-set, drop-append-add, drop-drop, drop-set-lt, length-take-le, sets, slice, length-sets}
+use lib.Seq.{take-add, take_at, take-suc-set, drop-append-add, drop-drop, drop-set-lt, length-take-le}
 use lib.Dec.{ltb}
-use borrow.Author.Tests.{le-ltb, le-leb, ltb-false}
+use borrow.Author.Tests.{le-ltb, lt-ltb, ltb-false}
+use Rattle.std.specs.Prelude.{Ok, Err}
+use Rattle.std.proofs.lemmas.List.{take_all}
 use Rattle.refusal.specs.Refusal.{act_said}
-use Rattle.formula.specs.Tree.{Tree, encode}
-use Rattle.formula.proofs.Choices.{never}
-use Rattle.desk.specs.Sequent.{Hypothesis, Sequent, sequent_of}
-use Rattle.desk.specs.File.{flag_byte, header, hypotheses_bytes, encode_sequent}
 use Rattle.refusal.specs.declared.Said.{Said}
 use Rattle.refusal.specs.declared.Cause.TheVariants as cause
-use Rattle.buffers.specs.Outcome.{no_room, finish}
-use Rattle.desk.specs.Mirror.Desk.{places_from, HypothesesStand, Holds, flag_at}
-use Rattle.formula.specs.Equal.{Range}
-use Rattle.buffers.specs.Mirror.Buffers.{FinishIs}
+use Rattle.formula.specs.Tree.{Tree, encode}
+use Rattle.desk.specs.Sequent.{Hypothesis, Sequent, sequent_of}
+use Rattle.desk.specs.File.{flag_byte, header, hypotheses_bytes, encode_sequent}
+use Rattle.desk.specs.Mirror.Desk.{places_from, HypothesesStand, flag_at}
 use Rattle.desk.specs.Mirror.Masks.{flag_byte_of}
-use Rattle.buffers.specs.Mirror.WriteBytes.{Fitting, fits_in, low_byte, with_header, with_flags, file_on}
-use Rattle.desk.specs.declared.View.{View}
-use Rattle.buffers.specs.declared.Done.TheVariants as done
+use Rattle.desk.specs.declared.view.View.{View}
+use Rattle.desk.specs.declared.hypotheses.Hypotheses.{Hypotheses}
+use Rattle.desk.specs.Mirror.Bytes.{Stand}
 use Rattle.desk.proofs.MaskLaws.{byte_is}
-use Rattle.buffers.proofs.WriteLaws.{low_small, fits_room}
-use Rattle.desk.proofs.Laid.{sets_front, sets_split, same_part, stand_there}
-use Rattle.formula.proofs.RangeLaws.{range_slice, range_count}
+use Rattle.desk.proofs.Laid.{same_part, stand_there}
 use Rattle.desk.proofs.Found.{place_is, places_on}
+use Rattle.buffers.specs.Outcome.{no_room, finish}
+use Rattle.buffers.specs.Mirror.Buffers.{FinishIs}
+use Rattle.buffers.specs.Mirror.WriteBytes.{Fitting, low_byte, with_header, with_flags, file_on, put_at}
 
 -- ---- the flags
 stand_after : (o o' : List ℕ) (p : ℕ) → ((k : ℕ) → p ≤ k → drop k o' ≡ drop k o) → (hs : List Hypothesis) → HypothesesStand o p hs → HypothesesStand o' p hs
@@ -75,14 +74,29 @@ drop_front xs o k h =
     ap (λ (n : ℕ). drop n (xs ++ drop (length xs) o)) e ∙ drop-append-add xs (drop (length xs) o) (k - length xs) ∙ drop-drop (k - length xs) (length xs) o ∙ ap (λ (n : ℕ). drop n o) (sym e)
 
 low_is : (n m : ℕ) → n ≡ m → m ≤ 64 → low_byte n ≡ m
-low_is n m e h = sym (low_small n (omega arith)) ∙ e
+unfolding low_byte
+low_is n m e h = let k : n < 256 = omega arith in simp (lt-ltb _ _ k) e
 
-count : (d l : List ℕ) (v : View) (types : List ℕ) (hs : List Hypothesis) (g : List ℕ) (a e : ℕ) (goal : Tree) → Holds d l v types hs → Range g a e goal
-    → length (encode_sequent (sequent_of types hs goal)) ≡ v.end + (e - a)
+-- where there is room for the header, all of it is written
+header_whole : (t h : ℕ) (o : List ℕ) → 8 ≤ length o → with_header t h o ≡ put_at 0 (header (low_byte t) (low_byte h)) o
+unfolding with_header
+header_whole t h o room = rw (take_all (length o) (header (low_byte t) (low_byte h)) room) refl
+
+count : (h : Hypotheses) (types : List ℕ) (hs : List Hypothesis) (g : List ℕ) (goal : Tree) → Stand h types hs → g ≡ encode goal
+    → length (encode_sequent (sequent_of types hs goal)) ≡ h.view.end + length g
 unfolding encode_sequent
-count d l v types hs g a e goal H R = simp length-append (omega (arith, H.end_is, range_count g a e goal R))
+count h types hs g goal H R = simp length-append (omega (arith, H.end_is, ap length R))
 
-module _ (d l : List ℕ) (v : View) (types : List ℕ) (hs : List Hypothesis) (g : List ℕ) (a e : ℕ) (goal : Tree) (o : List ℕ) (H : Holds d l v types hs) (R : Range g a e goal) (F : Fitting (length d) v (length g) a e (length o)) (few : length types ≤ 64) (most : length hs ≤ 64) where
+module _ (E : Hypotheses) (types : List ℕ) (hs : List Hypothesis) (g : List ℕ) (goal : Tree) (o : List ℕ) (H : Stand E types hs) (R : g ≡ encode goal) (F : Fitting E g (length o)) (few : length types ≤ 64) (most : length hs ≤ 64) where
+  abbrev d : List ℕ
+  d = E.bytes.now
+
+  abbrev l : List ℕ
+  l = E.places.now
+
+  abbrev v : View
+  v = E.view
+
   HD : List ℕ
   HD = header (length types) (length hs)
 
@@ -94,15 +108,14 @@ module _ (d l : List ℕ) (v : View) (types : List ℕ) (hs : List Hypothesis) (
   a_long = simp length-append (omega (arith, H.end_is))
 
   o₁ : List ℕ
-  o₁ = sets o 0 (slice 0 v.end d)
+  o₁ = put_at 0 (take v.end d) o
 
   o₁_is : o₁ ≡ take v.end d ++ drop (length (take v.end d)) o
   unfolding o₁
-  o₁_is = let w = length-take-le v.end d F.on_desk in sets_front (take v.end d) o (omega (arith, F.in_room))
+  o₁_is = refl
 
   o₁_long : length o₁ ≡ length o
-  unfolding o₁
-  o₁_long = length-sets o 0 (slice 0 v.end d)
+  o₁_long = ap length o₁_is ∙ simp (length-append, length-drop) (omega (arith, length-take-le v.end d F.on_desk, F.in_room))
 
   o₁_front : take v.end o₁ ≡ take v.end d
   o₁_front = ap (take v.end) o₁_is ∙ take_at (take v.end d) (drop (length (take v.end d)) o) v.end (length-take-le v.end d F.on_desk)
@@ -114,14 +127,12 @@ module _ (d l : List ℕ) (v : View) (types : List ℕ) (hs : List Hypothesis) (
   o₂ = with_header v.identifiers v.hypotheses o₁
 
   o₂_is : o₂ ≡ HD ++ drop 8 o₁
-  unfolding o₂ HD with_header
-  o₂_is =
-      rw (low_is v.identifiers (length types) H.identifiers_are few, low_is v.hypotheses (length hs) H.hypotheses_are most)
-      (sets_front HD o₁ (omega (arith, o₁_long, F.in_room, H.end_is)))
+  unfolding o₂ HD
+  o₂_is = rw (header_whole v.identifiers v.hypotheses o₁ (omega (arith, o₁_long, F.in_room, H.end_is)), low_is v.identifiers (length types) H.identifiers_are few, low_is v.hypotheses (length hs) H.hypotheses_are most) refl
 
   o₂_long : length o₂ ≡ length o
-  unfolding o₂ with_header
-  o₂_long = length-sets o₁ 0 (header (low_byte v.identifiers) (low_byte v.hypotheses)) ∙ o₁_long
+  unfolding HD
+  o₂_long = ap length o₂_is ∙ simp (length-drop) (omega (arith, o₁_long, F.in_room, H.end_is))
 
   o₂_back : (k : ℕ) → 8 ≤ k → drop k o₂ ≡ drop k o₁
   unfolding HD
@@ -151,48 +162,44 @@ module _ (d l : List ℕ) (v : View) (types : List ℕ) (hs : List Hypothesis) (
       ∙ ap (λ (x : List ℕ). (HD ++ types) ++ (hypotheses_bytes hs ++ x)) (o₂_back v.end (omega arith) ∙ o₁_back)
       ∙ sym (append_assoc (HD ++ types) (hypotheses_bytes hs) (drop v.end o))
 
-  o₃_long : length o₃ ≡ length o
-  o₃_long = ap length o₃_is ∙ length-append A (drop v.end o) ∙ omega (arith, a_long, length-drop v.end o, F.in_room)
-
   abbrev q : Sequent
   q = sequent_of types hs goal
 
-  pub file_long : length (encode_sequent q) ≡ v.end + (e - a)
-  file_long = count d l v types hs g a e goal H R
+  pub file_long : length (encode_sequent q) ≡ v.end + length g
+  file_long = count E types hs g goal H R
 
   whole_is : encode_sequent q ≡ A ++ encode goal
   unfolding encode_sequent A HD
   whole_is = simp append_assoc
 
-  file_is : file_on d l v g a e o ≡ encode_sequent q ++ drop (length (encode_sequent q)) o
+  pub file_is : file_on E g o ≡ encode_sequent q ++ drop (length (encode_sequent q)) o
   unfolding file_on o₁ o₂ o₃
   file_is =
-      let bs = slice a e g in
-      let b≡ : length bs ≡ e - a = ap length (range_slice g a e goal R) ∙ range_count g a e goal R in
-      let n≡ : v.end + length bs ≡ length (encode_sequent q) = ap (λ (n : ℕ). v.end + n) b≡ ∙ sym file_long in
+      let n≡ : v.end + length g ≡ length (encode_sequent q) = sym file_long in
       let a≡ = a_long in
       let r : o₃ ≡ A ++ drop (length A) o = o₃_is ∙ ap (λ (n : ℕ). A ++ drop n o) (sym a≡) in
-      sets_split bs o₃ v.end (omega (arith, o₃_long, F.in_room))
-      ∙ ap (λ (x : List ℕ). x ++ (bs ++ drop (v.end + length bs) o₃)) (ap (take v.end) r ∙ take_at A (drop (length A) o) v.end a≡)
-      ∙ ap (λ (x : List ℕ). A ++ (bs ++ x)) (ap (drop (v.end + length bs)) r ∙ drop_front A o (v.end + length bs) (omega arith))
-      ∙ ap (λ (n : ℕ). A ++ (bs ++ drop n o)) n≡
-      ∙ ap (λ (x : List ℕ). A ++ (x ++ drop (length (encode_sequent q)) o)) (range_slice g a e goal R)
+      ap (put_at v.end g) r
+      ∙ ap (λ (x : List ℕ). x ++ (g ++ drop (length g) (drop v.end (A ++ drop (length A) o)))) (take_at A (drop (length A) o) v.end a≡)
+      ∙ ap (λ (x : List ℕ). A ++ (g ++ drop (length g) x)) (drop_front A o v.end (omega arith))
+      ∙ ap (λ (x : List ℕ). A ++ (g ++ x)) (drop-drop (length g) v.end o)
+      ∙ ap (λ (n : ℕ). A ++ (g ++ drop n o)) n≡
+      ∙ ap (λ (x : List ℕ). A ++ (x ++ drop (length (encode_sequent q)) o)) R
       ∙ sym (append_assoc A (encode goal) (drop (length (encode_sequent q)) o))
       ∙ ap (λ (x : List ℕ). x ++ drop (length (encode_sequent q)) o) (sym whole_is)
 
 -- ---- the answers
-module _ (d l : List ℕ) (v : View) (g : List ℕ) (a e : ℕ) (changed : Bool) (o : List ℕ) where
+module _ (h : Hypotheses) (g : List ℕ) (changed : Bool) (o : List ℕ) where
   room_left : (types : List ℕ) (hs : List Hypothesis) (goal : Tree) → length hs ≤ 64 → (n : ℕ) → length (encode_sequent (sequent_of types hs goal)) ≡ n → n ≤ 60000 → n ≤ length o
       → no_room (length o) (sequent_of types hs goal) ≡ false
   unfolding no_room
   room_left types hs goal m n n≡ h k = rw n≡ (simp (le-ltb _ _ m, le-ltb _ _ h, le-ltb _ _ k))
 
-  pub finish_is : (o' : List ℕ) (n : ℕ) → Fitting (length d) v (length g) a e (length o) → o' ≡ file_on d l v g a e o → n ≡ v.end + (e - a) → FinishIs d l v g a e changed o o' (done.Changed changed n)
+  pub finish_is : (o' : List ℕ) (n : ℕ) → Fitting h g (length o) → o' ≡ file_on h g o → n ≡ h.view.end + length g → FinishIs h g changed o o' (Ok (record { changed = changed; len = n }))
   unfolding finish
   finish_is o' n F e≡ n≡ types hs goal H few most R =
-      let l≡ = file_long d l v types hs g a e goal o H R F few most in
-      let room = room_left types hs goal most (v.end + (e - a)) l≡ F.short F.in_room in
-      rw room (ap (done.Changed changed) (n≡ ∙ sym l≡), e≡ ∙ file_is d l v types hs g a e goal o H R F few most)
+      let l≡ = file_long h types hs g goal o H R F few most in
+      let room = room_left types hs goal most (h.view.end + length g) l≡ F.short F.in_room in
+      rw room (ap (λ (n : ℕ). Ok (record { changed = changed; len = n })) (n≡ ∙ sym l≡), e≡ ∙ file_is h types hs g goal o H R F few most)
 
   none_left : (types : List ℕ) (hs : List Hypothesis) (goal : Tree) → length hs ≤ 64 → (n : ℕ) → length (encode_sequent (sequent_of types hs goal)) ≡ n
       → ((n ≤ 60000) → (n ≤ length o) → ⊥) → no_room (length o) (sequent_of types hs goal) ≡ true
@@ -204,12 +211,9 @@ module _ (d l : List ℕ) (v : View) (g : List ℕ) (a e : ℕ) (changed : Bool)
       go false true p q = refl
       go false false p q = absurd (h (ltb-false 60000 n p) (ltb-false (length o) n q))
 
-  pub finish_no : (b : Bool) (z : Said) → b ≡ fits_in (length d) v (length g) a e (length o) → b ≡ false → z ≡ act_said cause.Room → FinishIs d l v g a e changed o o (done.Refused z)
+  pub finish_no : (z : Said) → (Fitting h g (length o) → ⊥) → z ≡ act_said cause.Room → FinishIs h g changed o o (Err z)
   unfolding finish
-  finish_no b r b≡ b-no r≡ types hs goal H few most R =
-      let l≡ = count d l v types hs g a e goal H R in
-      let w = H.hypotheses_are in
-      let full = none_left types hs goal most (v.end + (e - a)) l≡ (λ h k.
-      let z = le-leb _ _ k in
-      never (sym b-no ∙ b≡ ∙ sym (fits_room (length d) v (length g) a e (length o) (omega arith) H.in_desk R.inside R.from_to (omega arith) (omega arith)) ∙ z)) in
-      rw full (ap done.Refused r≡, refl)
+  finish_no z over z≡ types hs goal H few most R =
+      let full = none_left types hs goal most (h.view.end + length g) (count h types hs g goal H R)
+      (λ short in_room. over (record { few = omega (arith, H.hypotheses_are); on_desk = H.in_desk; short = short; in_room = in_room })) in
+      rw full (ap Err z≡, refl)

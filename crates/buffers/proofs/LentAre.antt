@@ -13,11 +13,12 @@ use Rattle.formula.specs.Tree.{Tree, encode}
 use Rattle.formula.specs.Formula.{Formula}
 use Rattle.formula.specs.declared.Sort.TheVariants as sort
 use Rattle.formula.proofs.Places.{AllBytes, one_more, behind}
+use Rattle.formula.proofs.Back.{OfGot, on_got_law, unless}
+use Rattle.desk.proofs.Formulas.{Each, each_append}
 use Rattle.sequent.specs.ReadFile.{predicate_at}
 use Rattle.sequent.specs.ReadFile.{to_end}
+use Rattle.sequent.proofs.SeenIs.{to_end_law, so_seen, of_seen, PredicateStands, reads_predicate, predicate_stood}
 use Rattle.buffers.specs.Lent.{lent_predicate, predicates_at, lent_list}
-use Rattle.desk.proofs.Formulas.{Each, each_append}
-use Rattle.sequent.proofs.SeenIs.{OfGot, to_end_law, on_seen, so_seen, unless, of_seen, PredicateStands, reads_predicate, predicate_stood}
 
 -- formulas one after the other
 unfoldable pub formulas_bytes : List Tree → List ℕ
@@ -80,7 +81,7 @@ module _ (b types : List ℕ) where
   unfolding predicates_at formulas_bytes
   formulas_stood B zero earlier p P = record { so_many = omega arith; predicates = P; stand = refl; inside = λ h. h }
   formulas_stood B (suc n) earlier p P =
-      on_seen (PredicateStands b types p) (FormulasStood (suc n) earlier p) (predicate_at b types p) _ (predicate_stood b types p B) λ x m X.
+      on_got_law (PredicateStands b types p) (FormulasStood (suc n) earlier p) (predicate_at b types p) _ (predicate_stood b types p B) λ x m X.
       let l = earlier ++ (x ∷ []) in
       so_seen (FormulasStood n l m) (FormulasStood (suc n) earlier p) (predicates_at b types n l m) (formulas_stood B n l m (each_append (Formula types sort.Predicate) earlier (x ∷ []) P (X.is_formula, tt))) λ xs q H.
       let a : formulas_bytes l ≡ formulas_bytes earlier ++ encode x = bytes_joined earlier (x ∷ []) ∙ rw (append-nil (encode x)) refl in

@@ -9,12 +9,12 @@ use lib.ListN.{length, length-append}
 use lib.Dec.{ltb}
 use borrow.Author.Tests.{lt-ltb}
 use Rattle.refusal.specs.Refusal.{act_said}
+use Rattle.refusal.specs.declared.Cause.TheVariants as cause
 use Rattle.formula.specs.Tree.{encode}
 use Rattle.desk.specs.Sequent.{Sequent}
 use Rattle.desk.specs.File.{hypotheses_bytes, encode_sequent}
-use Rattle.buffers.specs.Outcome.{Acted, refuses, no_room, finish}
 use Rattle.desk.specs.Mirror.Moves.{TooMuch}
-use Rattle.refusal.specs.declared.Cause.TheVariants as cause
+use Rattle.buffers.specs.Outcome.{Acted, refuses, no_room, finish}
 
 pub sequent_long : (q : Sequent) → length (encode_sequent q) ≡ 8 + length q.types + length (hypotheses_bytes q.hypotheses) + length (encode q.goal)
 unfolding encode_sequent

@@ -1,10 +1,10 @@
 -- Document 01: formulas and lists lent with an act. "A lent formula uses its sequent's identifiers. A lent list is a count byte 0..64 (else 7, place 0) and its formulas; an empty buffer is 1."
 use Rattle.std.specs.Prelude.{ℕ, zero, suc, List, [], ◌∷◌, ◌++◌, length, get_or, ltb, leb}
+use Rattle.refusal.specs.declared.Cause.TheVariants as cause
 use Rattle.formula.specs.Reading.{Parsed, got, not_got, on_got}
 use Rattle.formula.specs.Pick.{pick}
 use Rattle.formula.specs.Tree.{Tree}
 use Rattle.sequent.specs.ReadFile.{predicate_at, to_end}
-use Rattle.refusal.specs.declared.Cause.TheVariants as cause
 
 unfoldable pub lent_predicate : List ℕ → List ℕ → Parsed Tree
 lent_predicate types b = to_end b (predicate_at b types 0)

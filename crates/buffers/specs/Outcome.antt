@@ -1,16 +1,15 @@
 -- What each public function answers, and what it leaves in the lent buffer.
-use Rattle.std.specs.Prelude.{ℕ, List, ◌++◌, Bool, ◌||◌, length, drop, ltb}
+use Rattle.std.specs.Prelude.{ℕ, List, ◌++◌, Bool, ◌||◌, length, drop, ltb, Result, Ok, Err}
 use Rattle.refusal.specs.Refusal.{refused, said_of, act_said}
+use Rattle.refusal.specs.declared.Said.{Said}
+use Rattle.refusal.specs.declared.Cause.TheVariants as cause
 use Rattle.formula.specs.Reading.{Parsed, got, not_got}
 use Rattle.formula.specs.Pick.{pick}
 use Rattle.formula.specs.Tree.{Tree}
-use Rattle.refusal.specs.declared.Said.{Said}
 use Rattle.desk.specs.Sequent.{Sequent}
 use Rattle.desk.specs.File.{encode_sequent}
 use Rattle.buffers.specs.Lent.{lent_list}
-use Rattle.refusal.specs.declared.Cause.TheVariants as cause
 use Rattle.buffers.specs.declared.Done.{Done}
-use Rattle.buffers.specs.declared.Done.TheVariants as done
 
 -- the bytes to write and "changed", or a refusal
 pub data Outcome : Type 0 where
@@ -18,9 +17,9 @@ pub data Outcome : Type 0 where
   refuses : Said → Outcome
 
 -- what the function answers
-abbrev pub answer_of : Outcome → Done
-answer_of (writes b bytes) = done.Changed b (length bytes)
-answer_of (refuses z) = done.Refused z
+abbrev pub answer_of : Outcome → Result Done Said
+answer_of (writes b bytes) = Ok (record { changed = b; len = length bytes })
+answer_of (refuses z) = Err z
 
 -- "A refusal is the number and a byte place; no output byte changes. A success writes its stated length; later bytes keep their old contents."
 abbrev pub written : Outcome → List ℕ → List ℕ

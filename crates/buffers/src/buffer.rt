@@ -1,103 +1,66 @@
 // Formulas and lists lent with an act.
-ghost use Rattle.std.specs.Prelude.{◌≡◌, ◌<◌, ◌≤◌, length};
-ghost use Rattle.formula.specs.Mirror.PackedTable.{table};
-ghost use Rattle.buffers.specs.Mirror.Buffers.{LentIs, ListedIs};
-ghost use Rattle.buffers.specs.Mirror.Buffers.{FormulasAre};
+ghost use Rattle.std.specs.Prelude.{◌<◌, ◌≤◌, length, MatchResult};
+ghost use Rattle.buffers.specs.Lent.{lent_predicate, lent_list};
+ghost use Rattle.buffers.specs.Mirror.Buffers.{IsLent, FormulasSeen, FormulasRefused, Lists, ListRefused};
+ghost use Rattle.sequent.specs.Mirror.Opened.{Not};
 
-use super::{Lent, Listed};
-use formula::table::wide;
-use formula::{Reading, Sort};
-use reader::reader::read_with;
-use refusal::{Cause, Refusal, said_of};
-use sequent::Checked;
+use desk::List;
+use formula::Sort;
+use reader::reader::read_formula;
+use refusal::{Cause, Refusal, Said};
 use sequent::file::check_last;
 
 // One predicate, the whole buffer.
-pub fn lent_predicate(b: &[u8], rows: &[u64; 51], types: &[u8]) -> Lent
-    requires { rows.now ≡ table }
-    ensures { LentIs types.now b.now result }
+pub fn lent_predicate(b: &[u8], types: &[u8]) -> Result<(), Said>
+    ensures { MatchResult result (λ _. IsLent types.now b.now) (Not b.now (lent_predicate types.now b.now)) }
 {
-    let r = check_last(b, rows, types, 0);
-    match r {
-        Checked::Stopped(x) => Lent::Refused(said_of(x, b.len())),
-        Checked::Fine => Lent::Read,
-    }
+    check_last(b, types, 0).map_err(|x| x.said_in(b.len()))
 }
 
-// The n formulas after the count; `starts` gets where each starts, and where the last one ends.
-fn formulas(b: &[u8], rows: &[u64; 51], types: &[u8], n: usize, starts: &mut [usize; 65]) -> Reading
-    requires rows_value { rows.now ≡ table }
-    requires b_nonzero { 0 < length b.now }
+// The n formulas after the count.
+fn formulas<'a>(b: &'a [u8], types: &[u8], n: usize) -> Result<List<'a>, Refusal>
+    requires b_nonempty { 0 < length b.now }
     requires n_bound { n ≤ 64 }
-    ensures { FormulasAre types.now b.now n starts.new result }
+    ensures { MatchResult result (FormulasSeen types.now b.now n) (FormulasRefused types.now b.now n) }
 {
-    // A whole array anew: nothing of an earlier list is left in the starts.
-    let all = [1usize; 65];
-    *starts = all;
-    let mut p = 1usize;
-    let mut j = 0usize;
-    while j < n {
-        let r = read_with(b, rows, types, Sort::Predicate, p);
-        match r {
-            Reading::Refused(x) => {
-                return Reading::Refused(x);
-            }
-            Reading::Read(end) => {
-                p = end;
-            }
-        }
-        j += 1;
-        starts[j] = p;
+    let mut starts = [1; 65];
+    let mut p = 1;
+    for j in 0..n {
+        p = read_formula(b, types, Sort::Predicate, p)?;
+        starts[j + 1] = p;
     }
-    Reading::Read(p)
+    Ok(List {
+        bytes: b,
+        starts,
+        count: n,
+    })
+}
+
+// A list of at most `most` formulas, with nothing after it.
+#[tactic(auto, unfolding(crate::specs::Lent::lent_list))]
+fn list<'a>(b: &'a [u8], types: &[u8], most: usize) -> Result<List<'a>, Refusal>
+    requires { most ≤ 64 }
+    ensures { MatchResult result (Lists types.now most b.now) (ListRefused types.now most b.now) }
+{
+    if b.is_empty() {
+        return Err(Cause::Length.at(0));
+    }
+    let n = usize::from(b[0]);
+    if most < n {
+        return Err(Cause::Count.at(0));
+    }
+    let list = formulas(b, types, n)?;
+    let end = list.starts[n];
+    if end < b.len() {
+        return Err(Cause::After.at(end));
+    }
+    Ok(list)
 }
 
 // A list of at most `most` formulas, the whole buffer.
-pub fn lent_list(
-    b: &[u8],
-    rows: &[u64; 51],
-    types: &[u8],
-    most: usize,
-    starts: &mut [usize; 65],
-) -> Listed
-    requires rows_value { rows.now ≡ table }
-    requires most_bound { most ≤ 64 }
-    ensures { ListedIs types.now most b.now starts.new result }
+pub fn lent_list<'a>(b: &'a [u8], types: &[u8], most: usize) -> Result<List<'a>, Said>
+    requires { most ≤ 64 }
+    ensures { MatchResult result (Lists types.now most b.now) (Not b.now (lent_list types.now most b.now)) }
 {
-    let len = b.len();
-    if len == 0 {
-        return Listed::Refused(said_of(
-            Refusal {
-                cause: Cause::Length,
-                at: 0,
-            },
-            len,
-        ));
-    }
-    let n = wide(b[0]);
-    if most < n {
-        return Listed::Refused(said_of(
-            Refusal {
-                cause: Cause::Count,
-                at: 0,
-            },
-            len,
-        ));
-    }
-    let r = formulas(b, rows, types, n, starts);
-    match r {
-        Reading::Refused(x) => Listed::Refused(said_of(x, len)),
-        Reading::Read(end) => {
-            if end < len {
-                return Listed::Refused(said_of(
-                    Refusal {
-                        cause: Cause::After,
-                        at: end,
-                    },
-                    len,
-                ));
-            }
-            Listed::Read(n)
-        }
-    }
+    list(b, types, most).map_err(|x| x.said_in(b.len()))
 }

@@ -4,25 +4,9 @@
 pub mod buffer;
 pub mod write;
 
-use refusal::Said;
-
 // An act done: whether it answers "changed", and how many bytes it wrote.
-#[derive(Drop)]
-pub enum Done {
-    Changed(bool, usize),
-    Refused(Said),
-}
-
-// A lent formula: the whole buffer.
-#[derive(Drop)]
-pub enum Lent {
-    Read,
-    Refused(Said),
-}
-
-// A lent list: how many formulas.
-#[derive(Drop)]
-pub enum Listed {
-    Read(usize),
-    Refused(Said),
+#[derive(Clone, Copy, Debug, PartialEq, Eq)]
+pub struct Done {
+    pub changed: bool,
+    pub len: usize,
 }

@@ -4,26 +4,25 @@ ghost use Rattle.sequent.specs.Counts.{read_outcome};
 ghost use Rattle.c_api.specs.Sequent.{counts, counts_told};
 
 use super::Tally;
-use sequent::Counted;
+use refusal::Said;
+use sequent::Counts;
 
 // What is told of a sequent read; what does not apply keeps its value.
-fn tell(c: Counted, old: Tally) -> Tally
-    ensures { result ≡ counts_told c old }
+fn tell(r: Result<Counts, Said>, old: Tally) -> Tally
+    ensures { result ≡ counts_told r old }
 {
-    match c {
-        Counted::Counts(n) => Tally {
+    match r {
+        Ok(n) => Tally {
             answer: 0,
             hidden: n.hidden,
             selected: n.selected,
             visible: n.visible,
-            place: old.place,
+            ..old
         },
-        Counted::Refused(z) => Tally {
+        Err(z) => Tally {
             answer: z.number,
-            hidden: old.hidden,
-            selected: old.selected,
-            visible: old.visible,
             place: z.place,
+            ..old
         },
     }
 }

@@ -1,4 +1,5 @@
-// The acts on a sequent, for C: each writes the resulting sequent into `out`.
+// The acts on a sequent, for C: each writes the resulting sequent into `out`. C calls each by its name and takes numbers through
+// variables that it lends, so the seven are alike and have loose parameters.
 ghost use Rattle.std.specs.Prelude.{◌≡◌, length};
 ghost use Rattle.acts.specs.Acts as Acts;
 ghost use Rattle.acts.specs.Outcomes.{flag_outcome, modify_outcome, forward_outcome, rewrite_outcome};
@@ -6,39 +7,33 @@ ghost use Rattle.c_api.specs.Sequent.{bit, act, act_told, Tells};
 
 use super::Act;
 use buffers::Done;
-
-fn bit_of(b: bool) -> usize
-    ensures { result ≡ bit b }
-{
-    if b { 1 } else { 0 }
-}
+use refusal::Said;
 
 // What is told of an act done; what does not apply keeps its value.
-fn told_of(d: Done, old: Act) -> Act
-    ensures { result ≡ act_told d old }
+fn told_of(r: Result<Done, Said>, old: Act) -> Act
+    ensures { result ≡ act_told r old }
 {
-    match d {
-        Done::Changed(b, n) => Act {
+    match r {
+        Ok(d) => Act {
             answer: 0,
-            changed: bit_of(b),
-            size: n,
-            place: old.place,
+            changed: usize::from(d.changed),
+            size: d.len,
+            ..old
         },
-        Done::Refused(z) => Act {
+        Err(z) => Act {
             answer: z.number,
-            changed: old.changed,
-            size: old.size,
             place: z.place,
+            ..old
         },
     }
 }
 
 // The same, told.
-fn tell(d: Done, changed: &mut usize, size: &mut usize, place: &mut usize) -> usize
-    ensures { act result changed.new size.new place.new ≡ act_told d (act 0 changed.old size.old place.old) }
+fn tell(r: Result<Done, Said>, changed: &mut usize, size: &mut usize, place: &mut usize) -> usize
+    ensures { act result changed.new size.new place.new ≡ act_told r (act 0 changed.old size.old place.old) }
 {
     let t = told_of(
-        d,
+        r,
         Act {
             answer: 0,
             changed: *changed,
@@ -64,8 +59,7 @@ pub extern "C" fn cofferdrift_select(
 ) -> usize
     ensures { Tells (flag_outcome Acts.select s.now predicate.now (length out.old)) out.old out.new (act 0 changed.old size.old place.old) (act result changed.new size.new place.new) }
 {
-    let d = acts::select(s, predicate, out);
-    tell(d, changed, size, place)
+    tell(acts::select(s, predicate, out), changed, size, place)
 }
 
 // Deselects it.
@@ -80,8 +74,7 @@ pub extern "C" fn cofferdrift_deselect(
 ) -> usize
     ensures { Tells (flag_outcome Acts.deselect s.now predicate.now (length out.old)) out.old out.new (act 0 changed.old size.old place.old) (act result changed.new size.new place.new) }
 {
-    let d = acts::deselect(s, predicate, out);
-    tell(d, changed, size, place)
+    tell(acts::deselect(s, predicate, out), changed, size, place)
 }
 
 // Hides it.
@@ -96,8 +89,7 @@ pub extern "C" fn cofferdrift_hide(
 ) -> usize
     ensures { Tells (flag_outcome Acts.hide s.now predicate.now (length out.old)) out.old out.new (act 0 changed.old size.old place.old) (act result changed.new size.new place.new) }
 {
-    let d = acts::hide(s, predicate, out);
-    tell(d, changed, size, place)
+    tell(acts::hide(s, predicate, out), changed, size, place)
 }
 
 // Shows it.
@@ -112,8 +104,7 @@ pub extern "C" fn cofferdrift_show(
 ) -> usize
     ensures { Tells (flag_outcome Acts.show s.now predicate.now (length out.old)) out.old out.new (act 0 changed.old size.old place.old) (act result changed.new size.new place.new) }
 {
-    let d = acts::show(s, predicate, out);
-    tell(d, changed, size, place)
+    tell(acts::show(s, predicate, out), changed, size, place)
 }
 
 // Adds formulas, leaves some of them unselected, and may replace the goal.
@@ -130,8 +121,12 @@ pub extern "C" fn cofferdrift_modify(
 ) -> usize
     ensures { Tells (modify_outcome s.now added.now unselected.now goal.now (length out.old)) out.old out.new (act 0 changed.old size.old place.old) (act result changed.new size.new place.new) }
 {
-    let d = acts::modify(s, added, unselected, goal, out);
-    tell(d, changed, size, place)
+    tell(
+        acts::modify(s, added, unselected, goal, out),
+        changed,
+        size,
+        place,
+    )
 }
 
 // Forward inference.
@@ -147,8 +142,12 @@ pub extern "C" fn cofferdrift_forward(
 ) -> usize
     ensures { Tells (forward_outcome s.now sources.now inferred.now (length out.old)) out.old out.new (act 0 changed.old size.old place.old) (act result changed.new size.new place.new) }
 {
-    let d = acts::forward(s, sources, inferred, out);
-    tell(d, changed, size, place)
+    tell(
+        acts::forward(s, sources, inferred, out),
+        changed,
+        size,
+        place,
+    )
 }
 
 // Forward inference, then hide.
@@ -165,6 +164,10 @@ pub extern "C" fn cofferdrift_rewrite(
 ) -> usize
     ensures { Tells (rewrite_outcome s.now sources.now inferred.now hides.now (length out.old)) out.old out.new (act 0 changed.old size.old place.old) (act result changed.new size.new place.new) }
 {
-    let d = acts::rewrite(s, sources, inferred, hides, out);
-    tell(d, changed, size, place)
+    tell(
+        acts::rewrite(s, sources, inferred, hides, out),
+        changed,
+        size,
+        place,
+    )
 }

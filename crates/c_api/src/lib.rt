@@ -1,19 +1,19 @@
+// The interface for C: numbers and byte slices alone. A slice is passed as a pointer and a length.
 #![tactic(auto)]
 
 mod counts;
 mod hypotheses;
 
-// The interface for C: numbers and byte slices alone. A slice is passed as a pointer and a length.
 ghost use Rattle.std.specs.Prelude.{◌≡◌};
 ghost use Rattle.c_api.specs.Formula.{sort_asked, read_here, said, told};
 
-use formula::{Outcome, Sort};
+use formula::Sort;
 use reader::outcome_of;
 use reader::reader::read_formula;
 use refusal::Said;
 
 // What reading a sequent answers, and what it leaves in the variables lent with it.
-#[derive(Drop)]
+#[derive(Clone, Copy)]
 pub struct Tally {
     pub answer: usize,
     pub hidden: usize,
@@ -23,7 +23,7 @@ pub struct Tally {
 }
 
 // The same of an act.
-#[derive(Drop)]
+#[derive(Clone, Copy)]
 pub struct Act {
     pub answer: usize,
     pub changed: usize,
@@ -31,7 +31,7 @@ pub struct Act {
     pub place: usize,
 }
 
-// The sort that a number of C asks for.
+// The sort that a number of C asks for: any number is an answer there, so it is no enum.
 fn sort_asked(expression: usize) -> Sort
     ensures { result ≡ sort_asked expression }
 {
@@ -43,15 +43,15 @@ fn sort_asked(expression: usize) -> Sort
 }
 
 // 0 and the end of a formula read, else the number of the refusal and its place.
-fn told_of(o: Outcome) -> Said
-    ensures { result ≡ told o }
+fn told_of(r: Result<usize, Said>) -> Said
+    ensures { result ≡ told r }
 {
-    match o {
-        Outcome::Read(end) => Said {
+    match r {
+        Ok(end) => Said {
             number: 0,
             place: end,
         },
-        Outcome::Refused(x) => x,
+        Err(z) => z,
     }
 }
 

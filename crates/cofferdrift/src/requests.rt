@@ -1,228 +1,174 @@
-// Each act: its files read, the proved function asked, its result stored, its answer said.
-ghost use Rattle.std.specs.Prelude.{◌≤◌, length};
+// A request: its words parsed, its files read, the proved function asked, its result stored.
+ghost use Rattle.std.specs.Prelude.{◌≤◌};
 
-use super::{files, words};
+use super::files;
+use super::words::{Answer, Fault, Misuse};
 use buffers::Done;
-use sequent::Counted;
+use refusal::{Cause, Said};
+use std::env::{Env, FillError};
 use std::rt::Runtime;
 
-// The sequent that argument 2 names: how many bytes, or none where it was answered already.
-fn load_sequent(rt: &impl Runtime, file: &mut [u8]) -> files::Loaded
-    ensures { result.kept ≤ length file.new }
-{
-    let l = files::load(rt, 2, file);
-    let ok = l.ok;
-    let more = l.more;
-    if !ok {
-        words::misuse(rt, b"the sequent file cannot be read");
-        return l;
-    }
-    if more != 0 {
-        words::too_long(rt, l.kept, more);
-        return files::Loaded {
-            ok: false,
-            kept: l.kept,
-            more: more,
-        };
-    }
-    l
+// Room for a lent buffer. The longest list has 65,537 bytes: of a longer file one byte more says all.
+const LENT: usize = 65538;
+
+// Room for a result.
+const SEQUENT: usize = 60000;
+
+// An act on the hypotheses of a sequent; `vectors` has an enum of the thirteen that a line may name.
+#[derive(Clone, Copy)]
+enum Act {
+    Select,
+    Deselect,
+    Hide,
+    Show,
+    Modify,
+    Forward,
+    Rewrite,
 }
 
-// The lent buffer that argument i names.
-fn load_lent(rt: &impl Runtime, i: usize, file: &mut [u8]) -> files::Loaded
-    ensures { result.kept ≤ length file.new }
-{
-    let l = files::load(rt, i, file);
-    let ok = l.ok;
-    if !ok {
-        words::misuse(rt, b"a lent file cannot be read");
-    }
-    l
-}
-
-fn say_counts(rt: &impl Print, c: Counted) {
-    match c {
-        Counted::Counts(n) => {
-            words::say(rt, b"ok hidden ");
-            words::say_number(rt, n.hidden);
-            words::say(rt, b" selected ");
-            words::say_number(rt, n.selected);
-            words::say(rt, b" visible ");
-            words::say_number(rt, n.visible);
-            words::say(rt, b"\n");
+impl Act {
+    // How many files are lent with it.
+    fn lent(self) -> usize
+        ensures { result ≤ 3 }
+    {
+        match self {
+            Act::Select | Act::Deselect | Act::Hide | Act::Show => 1,
+            Act::Forward => 2,
+            Act::Modify | Act::Rewrite => 3,
         }
-        Counted::Refused(z) => words::refused(rt, z),
+    }
+
+    // The proved function that does it: the acts are lent one to three buffers, so a match is plainer than closures.
+    fn apply(self, s: &[u8], [a, b, c]: [&[u8]; 3], out: &mut [u8]) -> Result<Done, Said> {
+        match self {
+            Act::Select => acts::select(s, a, out),
+            Act::Deselect => acts::deselect(s, a, out),
+            Act::Hide => acts::hide(s, a, out),
+            Act::Show => acts::show(s, a, out),
+            Act::Modify => acts::modify(s, a, b, c, out),
+            Act::Forward => acts::forward(s, a, b, out),
+            Act::Rewrite => acts::rewrite(s, a, b, c, out),
+        }
     }
 }
 
-pub fn read(rt: &impl Runtime) {
-    let mut file = files::room();
-    let l = load_sequent(rt, &mut file);
-    let ok = l.ok;
-    let kept = l.kept;
-    if ok {
-        say_counts(rt, sequent::read(&file[..kept]));
+#[derive(Clone, Copy)]
+enum Request {
+    Help,
+    Read,
+    Change(Act),
+}
+
+impl TryFrom<&[u8]> for Request {
+    type Error = Misuse;
+
+    fn try_from(word: &[u8]) -> Result<Request, Misuse> {
+        match word {
+            b"help" => Ok(Request::Help),
+            b"read" => Ok(Request::Read),
+            b"select" => Ok(Request::Change(Act::Select)),
+            b"deselect" => Ok(Request::Change(Act::Deselect)),
+            b"hide" => Ok(Request::Change(Act::Hide)),
+            b"show" => Ok(Request::Change(Act::Show)),
+            b"modify" => Ok(Request::Change(Act::Modify)),
+            b"forward" => Ok(Request::Change(Act::Forward)),
+            b"rewrite" => Ok(Request::Change(Act::Rewrite)),
+            _ => Err(Misuse::UnknownAct),
+        }
     }
 }
 
-fn say_changed(rt: &impl Print, changed: bool) {
-    if changed {
-        words::say(rt, b"ok changed\n");
+impl Request {
+    // How many arguments it takes, the program's name and its own word among them.
+    fn arguments(self) -> usize {
+        match self {
+            Request::Help => 2,
+            Request::Read => 3,
+            Request::Change(act) => 4 + act.lent(),
+        }
+    }
+}
+
+// How many arguments the program was started with, its own name among them; 8 stands for more than any act takes,
+// since all that is asked is whether it is the right number.
+fn arg_count(rt: &impl Env) -> usize {
+    (0..8)
+        .take_while(|&i| !matches!(rt.arg(i, &mut [0u8; 1]), Err(FillError::NotPresent)))
+        .count()
+}
+
+// The request that argument 1 names.
+fn requested(rt: &impl Env) -> Result<Request, Misuse> {
+    let mut word = [0u8; 4096];
+    let len = rt.arg(1, &mut word).map_err(|_| Misuse::NoAct)?;
+    let request = Request::try_from(&word[..len])?;
+    if arg_count(rt) == request.arguments() {
+        Ok(request)
     } else {
-        words::say(rt, b"ok unchanged\n");
+        Err(Misuse::ArgumentCount)
     }
 }
 
-// Stores what an act wrote into the file that argument i names, and says what it answered.
-fn store_done(rt: &impl Runtime, i: usize, d: Done, out: &[u8]) {
-    match d {
-        Done::Changed(changed, n) => {
-            let k = files::at_most(n, out);
-            if files::store(rt, i, &out[..k]) {
-                say_changed(rt, changed);
-            } else {
-                words::misuse(rt, b"the output file cannot be written");
-            }
-        }
-        Done::Refused(z) => words::refused(rt, z),
+// The sequent that argument 2 names. One longer than its room has over 60,000 bytes: its length is refused.
+fn load_sequent<'a>(rt: &impl Runtime, room: &'a mut [u8]) -> Result<&'a [u8], Fault> {
+    let mut file = files::open(rt, 2).map_err(|_| Misuse::SequentUnreadable)?;
+    let s = files::fill(&mut file, room);
+    let more = files::count_rest(&mut file);
+    if more == 0 {
+        return Ok(s);
     }
+    Err(
+        Cause::Length
+            .at(0)
+            .said_in(s.len().saturating_add(more))
+            .into(),
+    )
 }
 
-fn flag_act(which: u8, s: &[u8], b: &[u8], out: &mut [u8]) -> Done {
-    match which {
-        0 => acts::select(s, b, out),
-        1 => acts::deselect(s, b, out),
-        2 => acts::hide(s, b, out),
-        _ => acts::show(s, b, out),
-    }
-}
-
-// select, deselect, hide, show.
-fn with_formula(rt: &impl Runtime, which: u8, s: &[u8], lent: &mut [u8], out: &mut [u8]) {
-    let b = load_lent(rt, 3, lent);
-    let ok = b.ok;
-    let n = b.kept;
-    if ok {
-        let d = flag_act(which, s, &lent[..n], out);
-        store_done(rt, 4, d, out);
-    }
-}
-
-fn forward(rt: &impl Runtime, s: &[u8], sources: &mut [u8], inferred: &mut [u8], out: &mut [u8]) {
-    let a = load_lent(rt, 3, sources);
-    let ok = a.ok;
-    let n = a.kept;
-    if ok {
-        let b = load_lent(rt, 4, inferred);
-        let ok = b.ok;
-        let m = b.kept;
-        if ok {
-            let d = acts::forward(s, &sources[..n], &inferred[..m], out);
-            store_done(rt, 5, d, out);
-        }
-    }
-}
-
-// modify and rewrite, of three lists each.
-fn list_act(which: u8, s: &[u8], a: &[u8], b: &[u8], c: &[u8], out: &mut [u8]) -> Done {
-    match which {
-        5 => acts::modify(s, a, b, c, out),
-        _ => acts::rewrite(s, a, b, c, out),
-    }
-}
-
-fn third_list(
+// The i-th lent file; nothing where the act takes fewer.
+fn load_lent<'a>(
     rt: &impl Runtime,
-    which: u8,
-    s: &[u8],
-    a: &[u8],
-    b: &[u8],
-    third: &mut [u8],
-    out: &mut [u8],
-) {
-    let c = load_lent(rt, 5, third);
-    let ok = c.ok;
-    let n = c.kept;
-    if ok {
-        let d = list_act(which, s, a, b, &third[..n], out);
-        store_done(rt, 6, d, out);
+    act: Act,
+    i: usize,
+    room: &'a mut [u8],
+) -> Result<&'a [u8], Fault> {
+    if i >= act.lent() {
+        return Ok(&[]);
     }
+    let mut file = files::open(rt, 3 + i).map_err(|_| Misuse::LentUnreadable)?;
+    Ok(files::fill(&mut file, room))
 }
 
-fn second_list(
-    rt: &impl Runtime,
-    which: u8,
-    s: &[u8],
-    a: &[u8],
-    second: &mut [u8],
-    third: &mut [u8],
-    out: &mut [u8],
-) {
-    let b = load_lent(rt, 4, second);
-    let ok = b.ok;
-    let n = b.kept;
-    if ok {
-        third_list(rt, which, s, a, &second[..n], third, out);
-    }
+fn read(rt: &impl Runtime) -> Result<Answer, Fault> {
+    let mut room = [0u8; LENT];
+    let s = load_sequent(rt, &mut room)?;
+    Ok(Answer::Read(sequent::read(s)?))
 }
 
-fn with_lists(
-    rt: &impl Runtime,
-    which: u8,
-    s: &[u8],
-    first: &mut [u8],
-    second: &mut [u8],
-    third: &mut [u8],
-    out: &mut [u8],
-) {
-    let a = load_lent(rt, 3, first);
-    let ok = a.ok;
-    let n = a.kept;
-    if ok {
-        second_list(rt, which, s, &first[..n], second, third, out);
-    }
+fn change(rt: &impl Runtime, act: Act) -> Result<Answer, Fault> {
+    let mut room = [0u8; LENT];
+    let s = load_sequent(rt, &mut room)?;
+    let (mut first, mut second, mut third) = ([0u8; LENT], [0u8; LENT], [0u8; LENT]);
+    let all = [
+        load_lent(rt, act, 0, &mut first)?,
+        load_lent(rt, act, 1, &mut second)?,
+        load_lent(rt, act, 2, &mut third)?,
+    ];
+    let mut out = [0u8; SEQUENT];
+    let Done { changed, len } = act.apply(s, all, &mut out)?;
+    let len = len.min(out.len());
+    files::store(rt, 3 + act.lent(), &out[..len]).map_err(|_| Misuse::OutputUnwritable)?;
+    Ok(if changed {
+        Answer::Changed
+    } else {
+        Answer::Unchanged
+    })
 }
 
-fn dispatch(
-    rt: &impl Runtime,
-    which: u8,
-    s: &[u8],
-    a: &mut [u8],
-    b: &mut [u8],
-    c: &mut [u8],
-    out: &mut [u8],
-) {
-    match which {
-        4 => forward(rt, s, a, b, out),
-        5 => with_lists(rt, which, s, a, b, c, out),
-        6 => with_lists(rt, which, s, a, b, c, out),
-        _ => with_formula(rt, which, s, a, out),
+pub fn run(rt: &impl Runtime) -> Result<Answer, Fault> {
+    match requested(rt)? {
+        Request::Help => Ok(Answer::Help),
+        Request::Read => read(rt),
+        Request::Change(act) => change(rt, act),
     }
-}
-
-fn with_sequent(
-    rt: &impl Runtime,
-    which: u8,
-    file: &mut [u8],
-    a: &mut [u8],
-    b: &mut [u8],
-    c: &mut [u8],
-    out: &mut [u8],
-) {
-    let l = load_sequent(rt, file);
-    let ok = l.ok;
-    let n = l.kept;
-    if ok {
-        dispatch(rt, which, &file[..n], a, b, c, out);
-    }
-}
-
-// An act by its number: 0 select, 1 deselect, 2 hide, 3 show, 4 forward, 5 modify, 6 rewrite.
-pub fn act(rt: &impl Runtime, which: u8) {
-    let mut file = files::room();
-    let mut a = files::room();
-    let mut b = files::room();
-    let mut c = files::room();
-    let mut out = files::sequent_room();
-    with_sequent(rt, which, &mut file, &mut a, &mut b, &mut c, &mut out);
 }

@@ -3,6 +3,7 @@ use mathlib.Core.Path.{◌≡◌, refl, sym, ◌∙◌}
 use mathlib.Core.Bool.{Bool, true, false, ◌||◌}
 use mathlib.Core.Option.{some}
 use mathlib.Core.List.{List, [], ◌∷◌, ◌++◌, append_assoc}
+use Rattle.std.proofs.Math.Bool.{or_assoc}
 use Rattle.formula.specs.Pick.{pick}
 use Rattle.formula.specs.Tree.{Tree, encode}
 use Rattle.formula.proofs.Choices.{never}
@@ -30,11 +31,7 @@ present_none x = refl
 
 pub present_append : (hs ks : List Hypothesis) (x : Tree) → present (hs ++ ks) x ≡ (present hs x || present ks x)
 present_append [] ks x = rw present_none refl
-present_append (h ∷ hs) ks x = present_cons h (hs ++ ks) x ∙ rw (present_append hs ks x, present_cons h hs x) (or_assoc (same h.formula x) (present hs x) (present ks x))
-  where
-    or_assoc : (a b c : Bool) → (a || (b || c)) ≡ ((a || b) || c)
-    or_assoc true b c = refl
-    or_assoc false b c = refl
+present_append (h ∷ hs) ks x = present_cons h (hs ++ ks) x ∙ rw (present_append hs ks x, present_cons h hs x) (sym (or_assoc (same h.formula x) (present hs x) (present ks x)))
 
 -- what is absent is apart from each
 module _ (x : Tree) where

@@ -12,6 +12,8 @@ use Rattle.desk.specs.Sequent.{Flag, Hypothesis, flag_in, present, hypothesis}
 use Rattle.formula.specs.Equal.{same}
 use Rattle.desk.specs.Hypotheses.{change}
 use Rattle.desk.specs.Mirror.Desk.{index_of, set_flag, flag_at}
+use Rattle.desk.proofs.Formulas.{formulas_long}
+use Rattle.desk.proofs.Grown.{change_formulas}
 
 module _ (x : Tree) where
   -- found, it has the flag of its position
@@ -68,10 +70,4 @@ module _ (x : Tree) where
 
 -- other flags, as many hypotheses
 pub change_long : (f : Flag → Flag) (x : Tree) (hs : List Hypothesis) → length (change f x hs) ≡ length hs
-unfolding change
-change_long f x [] = refl
-change_long f x (h ∷ hs) = go (same h.formula x) (change_long f x hs)
-  where
-    go : (b : Bool) → length (change f x hs) ≡ length hs → length (pick b (hypothesis (f h.flag) h.formula ∷ hs) (h ∷ change f x hs)) ≡ suc (length hs)
-    go true e = refl
-    go false e = ap suc e
+change_long f x hs = omega (arith, formulas_long (change f x hs), ap length (change_formulas f x hs), formulas_long hs)

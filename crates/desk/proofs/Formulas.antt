@@ -21,6 +21,13 @@ module _ {A : Type 0} (P : A → Type 0) where
   each [] f = tt
   each (x ∷ xs) f = (f x, each xs f)
 
+-- whatever they are
+abbrev pub Any : Tree → Type 0
+Any x = Unit {0}
+
+pub all_any : (xs : List Tree) → Each Any xs
+all_any xs = each Any xs (λ x. tt)
+
 abbrev pub formulas_of : List Hypothesis → List Tree
 formulas_of = map (λ h. h.formula)
 

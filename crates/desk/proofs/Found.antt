@@ -3,31 +3,32 @@ use Prim.Native.Nat.{ℕ, suc, ◌+◌, ◌-◌, ◌<◌, ◌≤◌}
 use mathlib.Core.Path.{◌≡◌, refl, sym, ap, ◌∙◌}
 use mathlib.Core.Bool.{Bool, true, false, ◌||◌}
 use mathlib.Core.List.{List, [], ◌∷◌}
+use native.Mathlib.Numerals.{add-one}
 use native.Mathlib.Nat.{add-zero, zero-add}
 use native.Mathlib.Omega.{arith}
-use lib.ListN.{length, get_or, take, drop, length-append, length-take}
-use lib.Seq.{get_or-drop, drop-drop}
+use lib.ListN.{length, get_or, take, drop, length-append}
+use lib.Seq.{get_or-drop, drop-drop, drop-cons}
 use lib.Dec.{ltb}
-use borrow.Author.Tests.{le-ltb, lt-ltb, lt-leb, ltb-true, ltb-false}
+use borrow.Author.Tests.{le-ltb, lt-ltb, le-leb, ltb-true, ltb-false}
 use Rattle.formula.specs.Pick.{pick}
 use Rattle.formula.specs.Tree.{Tree, encode}
 use Rattle.desk.specs.Sequent.{Hypothesis, present}
 use Rattle.formula.specs.Equal.{same}
-use Rattle.formula.specs.Equal.{Range}
 use Rattle.desk.specs.File.{hypotheses_bytes}
-use Rattle.desk.specs.Mirror.Desk.{places_from, HypothesesStand, Holds, index_of, FindIs}
-use Rattle.desk.specs.Mirror.Bytes.{has_formula, find_from, find_at}
-use Rattle.desk.specs.declared.View.{View}
+use Rattle.desk.specs.Mirror.Desk.{places_from, HypothesesStand, index_of, position}
+use Rattle.desk.specs.Mirror.Bytes.{Stand, has_formula, find_from, find_in}
+use Rattle.desk.specs.declared.hypotheses.Hypotheses.{Hypotheses}
+use Rattle.std.specs.Prelude.{Option, Some, None}
 use Rattle.desk.proofs.Apart.{present_none, present_cons}
-use Rattle.formula.proofs.RangeLaws.{ranges_same}
 
 -- a formula that stands after its flag byte
-has_is : (d : List ℕ) (p n : ℕ) (x : List ℕ) (a e : ℕ) (y z : Tree) → Range x a e y → n ≡ length (encode z) → take n (drop (p + 1) d) ≡ encode z → p + 1 + n ≤ length d
-    → has_formula d p (p + 1 + n) x a e ≡ same z y
-unfolding has_formula
-has_is d p n x a e y z R n≡ there in_desk =
-    let w : p + 1 + n - (p + 1) ≡ n = omega arith in
-    simp (lt-leb (p + 1 + n) p (omega arith)) (ranges_same d (p + 1) (p + 1 + n) z (record { from_to = omega arith; inside = in_desk; bytes_are = rw w there }) x a e y R)
+has_is : (d : List ℕ) (p n : ℕ) (x : List ℕ) (y z : Tree) → x ≡ encode y → n ≡ length (encode z) → take n (drop (p + 1) d) ≡ encode z → p + 1 + n ≤ length d
+    → has_formula d p (p + 1 + n) x ≡ same z y
+unfolding has_formula same
+has_is d p n x y z x≡ n≡ there in_desk =
+    let w : p + 1 + n - p ≡ suc n = omega arith in
+    let c : drop p d ≡ get_or d p 0 ∷ drop (p + 1) d = rw (add-one p) (drop-cons d p 0 (omega arith)) in
+    simp (le-leb p (p + 1 + n) (omega arith), le-leb (p + 1 + n) (length d) in_desk) (rw (w, c) (rw (there, x≡) refl))
 
 -- ---- the places
 module _ (D : List ℕ) (k b : ℕ) (r : List ℕ) where
@@ -57,44 +58,39 @@ unfolding places_from
 first_place l i p [] q = place_is l i 0 p [] q
 first_place l i p (h ∷ hs) q = place_is l i (suc (length hs)) p (places_from (p + 1 + length (encode h.formula)) hs) q
 
+-- ---- the position
+-- a place for each hypothesis, and one more
 pub places_count : (p : ℕ) (hs : List Hypothesis) → length (places_from p hs) ≡ suc (length hs)
 unfolding places_from
 places_count p [] = refl
 places_count p (h ∷ hs) = ap suc (places_count (p + 1 + length (encode h.formula)) hs)
 
--- ---- the position
-module _ (d l x : List ℕ) (a e : ℕ) (y : Tree) (R : Range x a e y) where
+module _ (d l x : List ℕ) (y : Tree) (x≡ : x ≡ encode y) where
   found : (hs : List Hypothesis) (p i : ℕ) → take (suc (length hs)) (drop i l) ≡ places_from p hs → HypothesesStand d p hs → p + length (hypotheses_bytes hs) ≤ length d
-      → find_from (length hs) d l i x a e ≡ i + index_of hs y
+      → find_from (length hs) d l i x ≡ pick (present hs y) (Some (i + index_of hs y)) None
   unfolding find_from index_of places_from HypothesesStand hypotheses_bytes
-  found [] p i q s h = sym (add-zero i)
+  found [] p i q s h = rw (present_none y) refl
   found (z ∷ hs) p i q s h =
       let n = length (encode z.formula) in
       let w = length-append (encode z.formula) (hypotheses_bytes hs) in
       let t = places_on l i (suc (length hs)) p (places_from (p + 1 + n) hs) q in
       let j = found hs (p + 1 + n) (i + 1) t s.1 (omega arith) in
-      rw (place_is l i (suc (length hs)) p (places_from (p + 1 + n) hs) q, first_place l (i + 1) (p + 1 + n) hs t, has_is d p n x a e y z.formula R refl s.0 (omega arith), j)
-      (go (same z.formula y))
+      rw (place_is l i (suc (length hs)) p (places_from (p + 1 + n) hs) q, first_place l (i + 1) (p + 1 + n) hs t, has_is d p n x y z.formula x≡ refl s.0 (omega arith), j, present_cons z hs y)
+      (go (same z.formula y) (present hs y))
     where
-      go : (b : Bool) → pick b i (i + 1 + index_of hs y) ≡ i + pick b 0 (suc (index_of hs y))
-      go true = sym (add-zero i)
-      go false = omega arith
+      go : (b c : Bool) → pick b (Some i) (pick c (Some (i + 1 + index_of hs y)) None) ≡ pick (b || c) (Some (i + pick b 0 (suc (index_of hs y)))) None
+      go true c = ap Some (sym (add-zero i))
+      go false true = let k : i + 1 + index_of hs y ≡ i + suc (index_of hs y) = omega arith in ap Some k
+      go false false = refl
 
--- the places are one more than the hypotheses
-within : (d l : List ℕ) (v : View) (types : List ℕ) (hs : List Hypothesis) → Holds d l v types hs → length hs < length l
-within d l v types hs H =
-    let c = ap length H.places_are ∙ places_count (8 + length types) hs in
-    let w = length-take (suc (length hs)) l in omega arith
-
-pub find_is : (d l : List ℕ) (h : ℕ) (x : List ℕ) (a e r : ℕ) → r ≡ find_at d l h x a e → FindIs d l h x a e r
-unfolding find_at
-find_is d l h x a e r g v types hs y H k R =
+pub find_is : (h : Hypotheses) (x : List ℕ) (types : List ℕ) (hs : List Hypothesis) (y : Tree) → Stand h types hs → length hs ≤ 64 → x ≡ encode y
+    → find_in h x ≡ position hs y
+unfolding find_in
+find_is h x types hs y H few x≡ =
     let w = H.end_is in
     let i = H.in_desk in
-    let n : h ≡ length hs = sym k ∙ H.hypotheses_are in
-    let b = within d l v types hs H in
-    g ∙ simp (lt-leb (length l) h (omega arith)) refl ∙ ap (λ (n : ℕ). find_from n d l 0 x a e) n
-    ∙ found d l x a e y R hs (8 + length types) 0 H.places_are H.stand (omega arith) ∙ zero-add (index_of hs y)
+    let n = H.hypotheses_are in
+    simp (le-leb h.view.hypotheses 64 (omega arith)) (rw n (found h.bytes.now h.places.now x y x≡ hs (8 + length types) 0 H.places_are H.stand (omega arith) ∙ rw (zero-add (index_of hs y)) refl))
 
 -- a formula is there if its position is one of theirs
 next_below : (i n : ℕ) → ltb (suc i) (suc n) ≡ ltb i n
@@ -112,3 +108,27 @@ there_is (h ∷ hs) y = go (same h.formula y) (there_is hs y) ∙ sym (present_c
     go : (b : Bool) → ltb (index_of hs y) (length hs) ≡ present hs y → ltb (pick b 0 (suc (index_of hs y))) (suc (length hs)) ≡ (b || present hs y)
     go true e = lt-ltb 0 (suc (length hs)) (omega arith)
     go false e = next_below (index_of hs y) (length hs) ∙ e
+
+-- by whether there is a position
+module _ (hs : List Hypothesis) (y : Tree) where
+  pub position_some : (i : ℕ) → Some i ≡ position hs y → (i ≡ index_of hs y) × (index_of hs y < length hs)
+  position_some i e = go (present hs y) (there_is hs y) e
+    where
+      go : (b : Bool) → ltb (index_of hs y) (length hs) ≡ b → Some i ≡ pick b (Some (index_of hs y)) None → (i ≡ index_of hs y) × (index_of hs y < length hs)
+      go true q e = (cc, ltb-true _ _ q)
+      go false q e = absurd cc
+
+  pub position_none : None ≡ position hs y → length hs ≤ index_of hs y
+  position_none e = go (present hs y) (there_is hs y) e
+    where
+      go : (b : Bool) → ltb (index_of hs y) (length hs) ≡ b → ◌≡◌ {A = Option ℕ} None (pick b (Some (index_of hs y)) None) → length hs ≤ index_of hs y
+      go true q e = absurd cc
+      go false q e = ltb-false _ _ q
+
+-- by what the code finds
+module _ (h : Hypotheses) (x types : List ℕ) (hs : List Hypothesis) (y : Tree) (H : Stand h types hs) (few : length hs ≤ 64) (x≡ : x ≡ encode y) where
+  pub find_some : (i : ℕ) → Some i ≡ find_in h x → (i ≡ index_of hs y) × (index_of hs y < length hs)
+  find_some i e = position_some hs y i (e ∙ find_is h x types hs y H few x≡)
+
+  pub find_no : None ≡ find_in h x → length hs ≤ index_of hs y
+  find_no e = position_none hs y (e ∙ find_is h x types hs y H few x≡)

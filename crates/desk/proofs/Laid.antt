@@ -1,17 +1,18 @@
 -- What the desk holds depends on no more than its bytes up to the end of the hypotheses.
-use Prim.Native.Nat.{ℕ, zero, suc, ◌+◌, ◌<◌, ◌≤◌}
+use Prim.Native.Nat.{ℕ, zero, suc, ◌+◌, min, ◌≤◌}
 use mathlib.Core.Path.{◌≡◌, refl, sym, ap, ◌∙◌}
-use mathlib.Core.List.{List, [], ◌∷◌, ◌++◌, append_assoc}
-use native.Mathlib.Nat.{zero-add}
+use mathlib.Core.List.{List, [], ◌∷◌, ◌++◌}
 use native.Mathlib.Omega.{arith}
-use lib.ListN.{length, take, drop, length-append}
-use lib.Seq.{take-take, take_at, length-take-le, sets, slice, sets-eq, length-sets}
+use lib.ListN.{length, take, drop, length-append, length-drop}
+use lib.Seq.{take-take, take_at, length-take-le}
 use Rattle.formula.specs.Tree.{encode}
 use Rattle.desk.specs.Sequent.{Hypothesis}
 use Rattle.desk.specs.File.{hypotheses_bytes}
 use Rattle.desk.specs.Mirror.Desk.{HypothesesStand, Holds}
-use Rattle.desk.specs.Mirror.Bytes.{LaidIs}
-use Rattle.desk.specs.declared.View.{View}
+use Rattle.desk.specs.Mirror.Bytes.{Stand, OnDesk, LaidIs}
+use Rattle.desk.specs.declared.Desk.{Desk}
+use Rattle.desk.specs.declared.hypotheses.Hypotheses.{Hypotheses}
+use Rattle.desk.specs.declared.view.View.{View}
 
 -- ---- parts of a list
 part_of : (p n e : ℕ) (d : List ℕ) → p + n ≤ e → take n (drop p (take e d)) ≡ take n (drop p d)
@@ -22,12 +23,6 @@ part_of (suc p) n (suc e) (b ∷ d) h = part_of p n e d (omega arith)
 
 pub same_part : (d d' : List ℕ) (p n e : ℕ) → take e d' ≡ take e d → p + n ≤ e → take n (drop p d') ≡ take n (drop p d)
 same_part d d' p n e q h = sym (part_of p n e d' h) ∙ ap (λ (l : List ℕ). take n (drop p l)) q ∙ part_of p n e d h
-
-pub sets_split : (xs o : List ℕ) (i : ℕ) → i + length xs ≤ length o → sets o i xs ≡ take i o ++ (xs ++ drop (i + length xs) o)
-sets_split xs o i h = sets-eq xs o i h ∙ append_assoc (take i o) xs (drop (i + length xs) o)
-
-pub sets_front : (xs o : List ℕ) → length xs ≤ length o → sets o 0 xs ≡ xs ++ drop (length xs) o
-sets_front xs o h = sets-eq xs o 0 (omega arith) ∙ ap (λ (n : ℕ). xs ++ drop n o) (zero-add (length xs))
 
 -- ---- the same bytes up to there
 module _ (d d' : List ℕ) (e : ℕ) (q : take e d' ≡ take e d) where
@@ -56,18 +51,24 @@ holds_there d d' places v types hs q k H =
     }
 
 -- ---- laying
-module _ (s : List ℕ) (v : View) (d : List ℕ) where
-  pub lay_short : length s < v.end → LaidIs s v d
-  lay_short h places types hs H k = absurd (omega (arith, H.in_desk))
+module _ (h : Hypotheses) where
+  -- the front of the bytes, over a desk
+  pub laid_is : (front desk : List ℕ) → front ≡ take h.view.end h.bytes.now → length desk ≡ 60000 → h.view.end ≤ length h.bytes.now → h.view.end ≤ 60000
+      → LaidIs h (record { bytes = front ++ drop h.view.end desk; places = h.places.now; view = h.view })
+  laid_is front desk front≡ l i j = record {
+    places_are = refl;
+    view_is = refl;
+    laid = λ places types hs H k.
+        let n = h.view.end in
+        let w : length front ≡ n = ap length front≡ ∙ length-take-le n h.bytes.now i in
+        let r = length-drop n desk in
+        holds_there h.bytes.now (front ++ drop n desk) places h.view types hs (take_at front (drop n desk) n w ∙ front≡) (simp length-append (omega arith)) H;
+  }
 
-  pub lay_over : 60000 < v.end → LaidIs s v d
-  lay_over h places types hs H k = absurd (omega arith)
+  -- or nothing, where the hypotheses end past their bytes or the desk
+  pub none_laid : (desk : List ℕ) → (h.view.end ≤ length h.bytes.now → h.view.end ≤ 60000 → ⊥) → LaidIs h (record { bytes = desk; places = h.places.now; view = h.view })
+  none_laid desk n = record { places_are = refl; view_is = refl; laid = λ places types hs H k. absurd (n H.in_desk k) }
 
-  pub lay_is : (d' : List ℕ) → length d ≡ 60000 → v.end ≤ length s → v.end ≤ 60000 → d' ≡ sets d 0 (slice 0 v.end s) → LaidIs s v d'
-  lay_is d' l h k e places types hs H m =
-      let w : length (take v.end s) ≡ v.end = length-take-le v.end s h in
-      let z : d' ≡ take v.end s ++ drop (length (take v.end s)) d = e ∙ sets_front (take v.end s) d (omega arith) in
-      let n : length d' ≡ 60000 = ap length e ∙ length-sets d 0 (slice 0 v.end s) ∙ l in
-      holds_there s d' places v types hs (ap (take v.end) z ∙ take_at (take v.end s) (drop (length (take v.end s)) d) v.end w) (omega arith) H
-
-pub ruleset lays = (lay_short, lay_over, lay_is)
+  -- what stands is then on the desk
+  pub laid_on : (d : Desk) → LaidIs h d → (types : List ℕ) (hs : List Hypothesis) → Stand h types hs → h.view.end ≤ 60000 → OnDesk d types hs
+  laid_on d L types hs H k = rw L.places_are (L.laid h.places.now types hs H k)

@@ -7,12 +7,13 @@
 --   Grown         hypotheses that grow: none is lost, moved or doubled; StepsGrow: after each step they have grown
 --   Positions     where a formula stands after others came
 -- The desk:
---   MaskCounts    one more hypothesis sets one more bit; the ones of a mask are a count
+--   MaskCounts    the ones of a mask are a count
 --   MaskLaws      the cases of the masks' code, and that they have the flags
 --   Laid          the desk depends on its bytes up to the end of the hypotheses
---   DeskLaws      the cases of copying, finding and growing
+--   DeskLaws      the cases of finding
 --   Found         what is found is the first hypothesis that is the formula
 --   Appends       the desk after one more hypothesis, or no room for it; Room: too much stays too much
+--   Lists         the formulas of a lent list stand in order, inside its bytes
 pub mod Apart
 pub mod Formulas
 pub mod FlagsAre
@@ -27,3 +28,4 @@ pub mod StepsGrow
 pub mod AtPosition
 pub mod Positions
 pub mod Room
+pub mod Lists

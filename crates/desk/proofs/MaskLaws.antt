@@ -1,28 +1,33 @@
 -- The cases of the masks, and that they have the flags of the hypotheses.
 use Prim.Native.Nat.{ℕ, zero, suc, ◌+◌, ◌-◌, ◌*◌, ◌/◌, ◌%◌, ◌^◌, max, ◌<◌, ◌≤◌}
 use mathlib.Core.Path.{◌≡◌, refl, sym, ap, ◌∙◌, subst}
-use mathlib.Core.Bool.{Bool, true, false}
+use mathlib.Core.Bool.{Bool, true, false, not, ◌&&◌}
 use mathlib.Core.List.{List, [], ◌∷◌, ◌++◌}
-use native.Mathlib.Nat.{le-div_iff_mul-le, one-mul, mod-eq_of_lt, pow-suc, pow-succ', div-div-eq-div-mul}
+use native.Mathlib.Nat.{le-div_iff_mul-le, div-eq_of_lt, one-mul, mod-eq_of_lt, pow-suc, pow-succ', div-div-eq-div-mul}
 use native.Mathlib.Omega.{arith}
 use lib.ListN.{length, take, length-append}
-use lib.Dec.{eqb}
+use lib.Dec.{eqb, ltb}
 use lib.Bits.{bit_or, or_step, or_zero_r}
-use lib.Pow.{pow_pos, pow-lt}
-use borrow.Author.Tests.{eqb-true, le-leb, lt-leb, le-ltb, lt-ltb}
+use Rattle.std.specs.Int.Bits.{bit_and}
+use Rattle.std.proofs.lemmas.Nat.{and-not, and_comm}
+use Rattle.std.proofs.lemmas.Nat.Bits.{and_pow}
+use lib.Pow.{pow_pos, pow-lt, pow_mono}
+use borrow.Author.Tests.{eqb-true, lt-leb, le-ltb}
 use Rattle.formula.specs.Pick.{pick}
 use Rattle.formula.specs.Tree.{encode}
 use Rattle.desk.specs.Sequent.{Flag, plain, hidden, selected, Hypothesis, is_hidden, is_selected}
 use Rattle.desk.specs.File.{flag_byte, hypotheses_bytes}
-use Rattle.desk.specs.Mirror.Desk.{view, mask_of, places_from, HypothesesStand, flag_from, set_flag, flag_at, SetIs}
-use Rattle.desk.specs.Mirror.Masks.{bit_of, with_bit, without_bit, put_bit, selects, with_flag, flag_byte_of, visible_mask, HiddenIs, SelectedIs}
-use Rattle.desk.specs.declared.View.{View}
+use Rattle.desk.specs.Mirror.Desk.{mask_of, places_from, HypothesesStand, flag_from, set_flag, flag_at, SetIs}
+use Rattle.desk.specs.Mirror.Masks.{bit_of, with_bit, without_bit, put_bit, with_flag, flag_byte_of, HiddenIs, SelectedIs}
+use Rattle.desk.specs.declared.view.View.{View}
+use Rattle.desk.proofs.MaskCounts.{bit, bit_small}
 
 -- ---- the code's cases
 module _ (m i : ℕ) where
-  pub bit_is : eqb (m / 2 ^ i % 2) 1 ≡ bit_of m i
+  -- a mask has 64 bits, and none past them
+  pub bit_past : 64 ≤ i → m < 2 ^ 64 → ltb i 64 ≡ bit_of m i
   unfolding bit_of
-  bit_is = refl
+  bit_past h k = let q : m / 2 ^ i ≡ 0 = div-eq_of_lt (omega (arith, k, pow_mono h)) in rw q (le-ltb i 64 h)
 
   shifted_one : i < 64 → (1 * 2 ^ i) % 2 ^ 64 ≡ 2 ^ i
   shifted_one h = ap (λ (n : ℕ). n % 2 ^ 64) (one-mul (2 ^ i)) ∙ mod-eq_of_lt (pow-lt h)
@@ -37,97 +42,22 @@ module _ (m i : ℕ) where
       let f : m / 2 ^ i % 2 ≡ 1 = eqb-true _ _ e in
       let g : 1 ≤ m / 2 ^ i = omega arith in subst (λ (n : ℕ). n ≤ m) (one-mul (2 ^ i)) ((le-div_iff_mul-le (pow_pos i)).0 g)
 
-  module _ (b : Bool) (b≡ : b ≡ bit_of m i) where
-    pub shift_within : i < 64 → b ≡ true → (1 * 2 ^ i) % 2 ^ 64 ≤ m
-    shift_within h e = rw (shifted_one h) (bit_within (sym b≡ ∙ e))
+  pub without_is : i < 64 → m < 2 ^ 64 → bit_and m (2 ^ 64 - 1 - (1 * 2 ^ i) % 2 ^ 64) ≡ without_bit m i
+  unfolding without_bit bit_of
+  without_is h k =
+      let e = and-not 64 (2 ^ i) m (pow-lt h) k in
+      let n = 2 ^ 64 - 1 - 2 ^ i in
+      let f : bit_and m n + m / 2 ^ i % 2 * 2 ^ i ≡ m = rw (and_comm m n, ← and_pow m i, and_comm m (2 ^ i)) e in
+      rw (shifted_one h) (go (bit_and m n) (m / 2 ^ i % 2) (omega arith) f)
+    where
+      go : (r b : ℕ) → b < 2 → r + b * 2 ^ i ≡ m → r ≡ pick (eqb b 1) (m - 2 ^ i) m
+      go r zero l f = omega (arith, f)
+      go r (suc zero) l f = omega (arith, f)
+      go r (suc (suc b)) l f = absurd (omega arith)
 
-    pub without_set : i < 64 → b ≡ true → m - (1 * 2 ^ i) % 2 ^ 64 ≡ without_bit m i
-    unfolding without_bit
-    without_set h e = rw (shifted_one h, ← b≡, e) refl
-
-    pub without_unset : b ≡ false → m ≡ without_bit m i
-    unfolding without_bit
-    without_unset e = rw (← b≡, e) refl
-
-  module _ (b : Bool) (r : ℕ) where
-    pub put_on : b ≡ true → r ≡ with_bit m i → r ≡ put_bit m i b
-    unfolding put_bit
-    put_on e q = rw e q
-
-    pub put_off : b ≡ false → r ≡ without_bit m i → r ≡ put_bit m i b
-    unfolding put_bit
-    put_off e q = rw e q
-
-module _ (hid sel : Bool) where
-  pub selects_no : hid ≡ true → false ≡ selects hid sel
-  unfolding selects
-  selects_no e = rw e refl
-
-  pub selects_by : hid ≡ false → sel ≡ selects hid sel
-  unfolding selects
-  selects_by e = rw e refl
-
-pub with_flag_is : (v : View) (i : ℕ) (hid sel b : Bool) (m n : ℕ) → m ≡ put_bit v.hidden i hid → b ≡ selects hid sel → n ≡ put_bit v.selected i b
-    → view v.identifiers v.hypotheses v.end m n ≡ with_flag v i hid sel
-unfolding with_flag
-with_flag_is v i hid sel b m n e q g = rw (e, g, q) refl
-
-module _ (v : View) (i : ℕ) where
-  pub byte_past : 64 ≤ i → 0 ≡ flag_byte_of v i
-  unfolding flag_byte_of
-  byte_past h = simp (le-leb _ _ h)
-
-  module _ (h : i < 64) (b : Bool) (b≡ : b ≡ bit_of v.hidden i) where
-    pub byte_hidden : b ≡ true → 1 ≡ flag_byte_of v i
-    unfolding flag_byte_of
-    byte_hidden e = simp (lt-leb _ _ h, ← b≡, e)
-
-    module _ (no : b ≡ false) (d : Bool) (d≡ : d ≡ bit_of v.selected i) where
-      pub byte_selected : d ≡ true → 2 ≡ flag_byte_of v i
-      unfolding flag_byte_of
-      byte_selected e = simp (lt-leb _ _ h, ← b≡, no, ← d≡, e)
-
-      pub byte_plain : d ≡ false → 0 ≡ flag_byte_of v i
-      unfolding flag_byte_of
-      byte_plain e = simp (lt-leb _ _ h, ← b≡, no, ← d≡, e)
-
--- the first hypotheses, and those of them that are visible
-module _ (n : ℕ) where
-  pub first_all : 63 < n → n ≤ 64 → 18446744073709551615 ≡ 2 ^ n - 1
-  first_all l h = let e : n ≡ 64 = omega arith in rw e refl
-
-  pub first_some : n ≤ 63 → (1 * 2 ^ n) % 2 ^ 64 - 1 ≡ 2 ^ n - 1
-  first_some h = ap (λ (k : ℕ). k - 1) (shifted_one 0 n (omega arith))
-
-  pub first_one : n ≤ 63 → 1 ≤ (1 * 2 ^ n) % 2 ^ 64
-  first_one h = rw (shifted_one 0 n (omega arith)) (pow_pos n)
-
-  module _ (m : ℕ) where
-    pub visible_past : 64 < n → 0 ≡ visible_mask n m
-    unfolding visible_mask
-    visible_past h = simp (lt-ltb _ _ h)
-
-    module _ (h : n ≤ 64) (all : ℕ) (all≡ : all ≡ 2 ^ n - 1) where
-      pub visible_none : all < m → 0 ≡ visible_mask n m
-      unfolding visible_mask
-      visible_none k = simp (le-ltb _ _ h) (omega arith)
-
-      pub visible_rest : all - m ≡ visible_mask n m
-      unfolding visible_mask
-      visible_rest = simp (le-ltb _ _ h, ← all≡)
-
-pub ruleset visibles = (first_all, first_some, first_one, visible_past, visible_none, visible_rest)
-
-pub ruleset masks = (bit_is, with_is, shift_within, without_set, without_unset, put_on, put_off, selects_no, selects_by, with_flag_is, byte_past, byte_hidden, byte_selected, byte_plain)
+pub ruleset masks = (with_is, without_is)
 
 -- ---- a mask by its first bit and the others
-abbrev bit : Bool → ℕ
-bit b = pick b 1 0
-
-bit_lt : (b : Bool) → bit b < 2
-bit_lt true = omega arith
-bit_lt false = omega arith
-
 module _ (m : ℕ) where
   bit_first : (d : Bool) → bit_of (bit d + 2 * m) 0 ≡ d
   unfolding bit_of
@@ -176,7 +106,7 @@ module _ (m : ℕ) where
 
   put_first : (d b : Bool) → put_bit (bit d + 2 * m) 0 b ≡ bit b + 2 * m
   unfolding put_bit
-  put_first d true = with_first (bit d) (bit_lt d)
+  put_first d true = with_first (bit d) (bit_small d)
   put_first d false = without_first d ∙ omega arith
 
   put_later : (c i : ℕ) (b : Bool) → c < 2 → put_bit (c + 2 * m) (suc i) b ≡ c + 2 * put_bit m i b
@@ -190,28 +120,27 @@ module _ (f : Flag → Bool) where
   unfolding mask_of flag_at
   bit_flag [] i h = absurd (omega (arith, h))
   bit_flag (x ∷ hs) zero h = bit_first (mask_of f hs) (f x.flag)
-  bit_flag (x ∷ hs) (suc i) h = bit_later (mask_of f hs) (bit (f x.flag)) i (bit_lt (f x.flag)) ∙ bit_flag hs i (omega arith)
+  bit_flag (x ∷ hs) (suc i) h = bit_later (mask_of f hs) (bit (f x.flag)) i (bit_small (f x.flag)) ∙ bit_flag hs i (omega arith)
 
   pub put_flag : (hs : List Hypothesis) (i : ℕ) (g : Flag) → i < length hs → put_bit (mask_of f hs) i (f g) ≡ mask_of f (set_flag i g hs)
   unfolding mask_of set_flag
   put_flag [] i g h = absurd (omega (arith, h))
   put_flag (x ∷ hs) zero g h = put_first (mask_of f hs) (f x.flag) (f g)
   put_flag (x ∷ hs) (suc i) g h =
-      put_later (mask_of f hs) (bit (f x.flag)) i (f g) (bit_lt (f x.flag)) ∙ ap (λ (n : ℕ). bit (f x.flag) + 2 * n) (put_flag hs i g (omega arith))
+      put_later (mask_of f hs) (bit (f x.flag)) i (f g) (bit_small (f x.flag)) ∙ ap (λ (n : ℕ). bit (f x.flag) + 2 * n) (put_flag hs i g (omega arith))
 
   pub put_new : (hs : List Hypothesis) (x : Hypothesis) → put_bit (mask_of f hs) (length hs) (f x.flag) ≡ mask_of f (hs ++ (x ∷ []))
   unfolding mask_of
   put_new [] x = put_first 0 false (f x.flag)
   put_new (y ∷ hs) x =
-      put_later (mask_of f hs) (bit (f y.flag)) (length hs) (f x.flag) (bit_lt (f y.flag)) ∙ ap (λ (n : ℕ). bit (f y.flag) + 2 * n) (put_new hs x)
+      put_later (mask_of f hs) (bit (f y.flag)) (length hs) (f x.flag) (bit_small (f y.flag)) ∙ ap (λ (n : ℕ). bit (f y.flag) + 2 * n) (put_new hs x)
 
 pub hidden_from : (hid sel : Bool) → is_hidden (flag_from hid sel) ≡ hid
 hidden_from true sel = refl
 hidden_from false true = refl
 hidden_from false false = refl
 
-pub selected_from : (hid sel : Bool) → is_selected (flag_from hid sel) ≡ selects hid sel
-unfolding selects
+pub selected_from : (hid sel : Bool) → is_selected (flag_from hid sel) ≡ (not hid && sel)
 selected_from true sel = refl
 selected_from false true = refl
 selected_from false false = refl
@@ -265,7 +194,7 @@ set_holds v i hid sel desk places types hs H k n =
       places_are = ap (λ (n : ℕ). take (suc n) places) c ∙ H.places_are ∙ sym (set_places g i (8 + length types) hs);
       stand = set_stand g desk i (8 + length types) hs H.stand;
       hidden_is = ap (λ (m : ℕ). put_bit m i hid) H.hidden_is ∙ ap (put_bit (mask_of is_hidden hs) i) (sym (hidden_from hid sel)) ∙ put_flag is_hidden hs i g k;
-      selected_is = ap (λ (m : ℕ). put_bit m i (selects hid sel)) H.selected_is ∙ ap (put_bit (mask_of is_selected hs) i) (sym (selected_from hid sel)) ∙ put_flag is_selected hs i g k;
+      selected_is = ap (λ (m : ℕ). put_bit m i (not hid && sel)) H.selected_is ∙ ap (put_bit (mask_of is_selected hs) i) (sym (selected_from hid sel)) ∙ put_flag is_selected hs i g k;
     }
 
 pub set_is : (v w : View) (i : ℕ) (hid sel : Bool) → w ≡ with_flag v i hid sel → SetIs v i hid sel w

@@ -5,7 +5,7 @@ use mathlib.Core.List.{List}
 use Rattle.formula.specs.Tree.{Tree}
 use Rattle.desk.specs.Sequent.{Flag, plain, Hypothesis, is_visible, among, flag_in, holds, present}
 use Rattle.desk.specs.Hypotheses.{select, change, change_all, added_flag, inferred_flag, add_one, add_all, infer_one, infer_all, infer}
-use Rattle.desk.proofs.Formulas.{Each, each}
+use Rattle.desk.proofs.Formulas.{Each, Any, all_any}
 use Rattle.desk.proofs.Grown.{Grown, flags_grown, one_grown, pick_grown, all_grown, change_grown}
 
 module _ (P : Tree → Type 0) where
@@ -35,4 +35,4 @@ module _ (P : Tree → Type 0) where
 
   pub changes_grown : (f : Flag → Flag) (xs : List Tree) (hs : List Hypothesis) → Grown P hs (change_all f xs hs)
   unfolding change_all
-  changes_grown f xs hs = all_grown P (λ x. Unit {0}) (change f) (change_all f) (λ hs. refl) (λ x xs hs. refl) (λ x hs u. change_grown P f x hs) xs hs (each (λ x. Unit {0}) xs (λ x. tt))
+  changes_grown f xs hs = all_grown P Any (change f) (change_all f) (λ hs. refl) (λ x xs hs. refl) (λ x hs u. change_grown P f x hs) xs hs (all_any xs)

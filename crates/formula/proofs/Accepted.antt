@@ -1,4 +1,5 @@
 -- THE THEOREMS: which bytes are accepted as a formula, and that the formula is one.
+use Rattle.std.specs.Prelude.{Ok}
 use Prim.Native.Nat.{ℕ, ◌+◌, ◌≤◌}
 use mathlib.Core.Path.{◌≡◌, refl, sym, ap, ◌∙◌, subst}
 use mathlib.Core.Option.{Option, some, none}
@@ -12,7 +13,6 @@ use Rattle.formula.specs.Typing.{first_wrong}
 use Rattle.formula.specs.Reading.{Parsed, got, not_got, formula_at}
 use Rattle.formula.specs.Formula.{typed?, asked8, tree_at, end_or_refusal, read_formula, Formula}
 use Rattle.formula.specs.declared.Sort.{Sort}
-use Rattle.formula.specs.declared.Reading.TheVariants as reading
 use Rattle.formula.proofs.Places.{AllBytes}
 use Rattle.formula.proofs.Round.{reads}
 use Rattle.formula.proofs.Back.{read_ends, read_is}
@@ -52,16 +52,16 @@ module _ (s types : List ℕ) (σ : Sort) (start : ℕ) where
           subst Is i.1 (record { formed = R.0; short = omega arith; type = T.0; typed = T.1 }, R.1 ∙ ap (λ (v : ℕ). encode x ++ drop v s) i.2, sym i.2 ∙ E₀, let w = i.2 in omega arith)
 
   -- ACCEPTED are the bytes of a formula, ..
-  pub accepts : (x : Tree) (r : List ℕ) → Formula types σ x → drop start s ≡ encode x ++ r → read_formula s types σ start ≡ reading.Read (start + length (encode x))
+  pub accepts : (x : Tree) (r : List ℕ) → Formula types σ x → drop start s ≡ encode x ++ r → read_formula s types σ start ≡ Ok (start + length (encode x))
   unfolding read_formula
   accepts x r F e = ap end_or_refusal (reads_tree x r F e)
 
   -- .. and nothing else
-  pub accepted : AllBytes s → (n : ℕ) → read_formula s types σ start ≡ reading.Read n → (x : Tree) × Formula types σ x × (drop start s ≡ encode x ++ drop n s) × (n ≡ start + length (encode x))
+  pub accepted : AllBytes s → (n : ℕ) → read_formula s types σ start ≡ Ok n → (x : Tree) × Formula types σ x × (drop start s ≡ encode x ++ drop n s) × (n ≡ start + length (encode x))
   unfolding read_formula
   accepted B n e = go (tree_at s types σ start) refl e
     where
-      go : (z : Parsed Tree) → tree_at s types σ start ≡ z → end_or_refusal z ≡ reading.Read n → (x : Tree) × Formula types σ x × (drop start s ≡ encode x ++ drop n s) × (n ≡ start + length (encode x))
+      go : (z : Parsed Tree) → tree_at s types σ start ≡ z → end_or_refusal z ≡ Ok n → (x : Tree) × Formula types σ x × (drop start s ≡ encode x ++ drop n s) × (n ≡ start + length (encode x))
       go (not_got c p) q e = absurd (let z : ◌≡◌ {A = ℕ} 0 1 = cc in omega (arith, z))
       go (got x m) q e =
           let m≡ : m ≡ n = cc in

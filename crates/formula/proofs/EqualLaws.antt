@@ -1,37 +1,18 @@
--- The cases of equality, and that it is equality of the ranges.
-use Prim.Native.Nat.{ℕ, zero, suc, ◌+◌, ◌-◌, ◌<◌, ◌≤◌}
+-- Bytes compared one by one are the same if the ranges are.
+use Prim.Native.Nat.{ℕ, zero, suc, ◌+◌, ◌<◌, ◌≤◌}
 use mathlib.Core.Path.{◌≡◌, refl, sym, ap, ◌∙◌}
 use mathlib.Core.Bool.{Bool, true, false}
 use mathlib.Core.List.{List, ◌∷◌}
-use native.Mathlib.Numerals.{sub-one, add-one}
+use native.Mathlib.Numerals.{add-one}
 use native.Mathlib.Omega.{arith}
 use lib.ListN.{length, get_or, take, drop}
 use lib.Seq.{drop-cons}
 use lib.Dec.{eqb}
-use borrow.Author.Tests.{eq-eqb, ne_eqb, eqb-true}
+use borrow.Author.Tests.{eq-eqb, eqb-true}
 use Rattle.formula.specs.Pick.{pick}
 use Rattle.formula.specs.Mirror.Ranges.{same_at}
 use Rattle.formula.proofs.Choices.{never}
 
-module _ (s t : List ℕ) (i j : ℕ) (z : Bool) where
-  pub same_end : (n : ℕ) → same_at n s i t j ≡ z → n ≡ 0 → true ≡ z
-  unfolding same_at
-  same_end zero e h = e
-  same_end (suc n) e h = absurd (omega (arith, h))
-
-  pub same_no : (n : ℕ) → same_at n s i t j ≡ z → (n ≡ 0 → ⊥) → (get_or s i 0 ≡ get_or t j 0 → ⊥) → false ≡ z
-  unfolding same_at
-  same_no zero e h k = absurd (h refl)
-  same_no (suc n) e h k = simp (ne_eqb _ _ k) at e
-
-  pub same_goes : (n : ℕ) → same_at n s i t j ≡ z → (n ≡ 0 → ⊥) → get_or s i 0 ≡ get_or t j 0 → same_at (n - 1) s (i + 1) t (j + 1) ≡ z
-  unfolding same_at
-  same_goes zero e h k = absurd (h refl)
-  same_goes (suc n) e h k = rw (sub-one (suc n)) (simp (eq-eqb _ _ k) at e)
-
-pub ruleset sames = (same_end, same_no, same_goes)
-
--- ---- it says that the ranges are one
 first_byte : (s : List ℕ) (a : ℕ) → a < length s → drop a s ≡ get_or s a 0 ∷ drop (a + 1) s
 first_byte s a h = drop-cons s a 0 h ∙ ap (λ (m : ℕ). get_or s a 0 ∷ drop m s) (sym (add-one a))
 

@@ -1,24 +1,13 @@
--- The cases of skipping, and of a node's type by its code.
+-- The cases of skipping.
 use Prim.Native.Nat.{ℕ, zero, suc, ◌+◌, ◌-◌, ◌<◌, ◌≤◌}
-use mathlib.Core.Path.{◌≡◌, refl}
+use mathlib.Core.Path.{◌≡◌, refl, sym, subst}
 use mathlib.Core.List.{List}
-use native.Mathlib.Numerals.{sub-one}
 use native.Mathlib.Omega.{arith}
 use lib.ListN.{length}
 use borrow.Author.Tests.{le-leb, lt-leb, eq-eqb, ne_eqb}
-use Rattle.formula.specs.Mirror.PackedTable.{row_at, field, count_of, type_by}
-use Rattle.formula.specs.Mirror.Bytes.{byte_at, own_byte, type_at, skip_from, skip_end}
+use Rattle.formula.specs.Mirror.PackedTable.{row_at, field, count_of}
+use Rattle.formula.specs.Mirror.Bytes.{byte_at, own_byte, skip_from, skip_end}
 
-module _ (s types : List ℕ) (i : ℕ) where
-  pub type_at_end : length s ≤ i → 0 ≡ type_at s types i
-  unfolding type_at
-  type_at_end h = simp (le-leb _ _ h)
-
-  pub type_at_by : (x b n r : ℕ) → i < length s → x ≡ row_at b → b ≡ byte_at s i → n ≡ own_byte x s (i + 1) → r ≡ type_by x types n → r ≡ type_at s types i
-  unfolding type_at
-  type_at_by x b n r h f g k e = simp (lt-leb _ _ h, e, k, f, g)
-
--- ---- skipping
 pub skip_starts : (s : List ℕ) (at : ℕ) → skip_from 1024 s 1 at ≡ skip_end s at
 unfolding skip_end
 skip_starts s at = refl
@@ -39,21 +28,19 @@ module _ (s : List ℕ) (z : ℕ) where
   skip_end_law zero left p e h k = e
   skip_end_law (suc fuel) left p e h k = simp (ne_eqb _ _ h, le-leb _ _ k) at e
 
-  module _ (fuel left p : ℕ) (e : skip_from fuel s left p ≡ z) (f : fuel ≡ 0 → ⊥) (h : left ≡ 0 → ⊥) (k : p < length s) (x b o : ℕ) (x≡ : x ≡ row_at b) (b≡ : b ≡ byte_at s p) (o≡ : o ≡ field x 0) where
+  module _ (fuel left p : ℕ) (e : skip_from fuel s left p ≡ z) (g : fuel ≡ 0 → ⊥) (h : left ≡ 0 → ⊥) (k : p < length s) (x b o : ℕ) (x≡ : x ≡ row_at b) (b≡ : b ≡ byte_at s p) (o≡ : o ≡ field x 0) where
     pub skip_short : length s - p ≤ o → p ≡ z
     unfolding skip_from
-    skip_short l = go fuel e f
+    skip_short l = go fuel e g
       where
         go : (fuel : ℕ) → skip_from fuel s left p ≡ z → (fuel ≡ 0 → ⊥) → p ≡ z
         go zero e f = absurd (f refl)
         go (suc fuel) e f = simp (ne_eqb _ _ h, lt-leb _ _ k, ← b≡, ← x≡, ← o≡, le-leb _ _ l) at e
 
-    pub skip_step : o < length s - p → (c n : ℕ) → n ≡ own_byte x s (p + 1) → c ≡ count_of x n → skip_from (fuel - 1) s (left - 1 + c) (p + o + 1) ≡ z
+    pub skip_step : o < length s - p → (c n f q : ℕ) → suc f ≡ fuel → q ≡ p + o + 1 → n ≡ own_byte x s (p + 1) → c ≡ count_of x n → skip_from f s (left - 1 + c) q ≡ z
     unfolding skip_from
-    skip_step l c n n≡ c≡ = go fuel e f
-      where
-        go : (fuel : ℕ) → skip_from fuel s left p ≡ z → (fuel ≡ 0 → ⊥) → skip_from (fuel - 1) s (left - 1 + c) (p + o + 1) ≡ z
-        go zero e f = absurd (f refl)
-        go (suc fuel) e f = rw (sub-one (suc fuel), c≡, n≡) (simp (ne_eqb _ _ h, lt-leb _ _ k, ← b≡, ← x≡, ← o≡, lt-leb _ _ l) at e)
+    skip_step l c n f q f≡ q≡ n≡ c≡ =
+        let t : skip_from (suc f) s left p ≡ z = subst (λ (m : ℕ). skip_from m s left p ≡ z) (sym f≡) e in
+        rw (q≡, c≡, n≡) (simp (ne_eqb _ _ h, lt-leb _ _ k, ← b≡, ← x≡, ← o≡, lt-leb _ _ l) at t)
 
-pub ruleset skips = (skip_starts, skip_zero, skip_done, skip_end_law, skip_short, skip_step)
+pub ruleset skips = (skip_starts, skip_zero, skip_done, skip_end_law, skip_short)

@@ -6,24 +6,15 @@ pub mod equal;
 pub mod skip;
 pub mod table;
 
-use refusal::{Refusal, Said};
+// The most bytes that a formula has, and so the most nodes.
+pub const LONGEST: usize = 1024;
+
+// The most levels that a formula has.
+pub const LEVELS: usize = 32;
 
 // What a formula is.
-#[derive(Drop)]
+#[derive(Clone, Copy, PartialEq, Eq)]
 pub enum Sort {
     Predicate,
     Expression,
-}
-
-// A formula read: its end.
-#[derive(Drop)]
-pub enum Reading {
-    Read(usize),
-    Refused(Refusal),
-}
-
-#[derive(Drop)]
-pub enum Outcome {
-    Read(usize),
-    Refused(Said),
 }

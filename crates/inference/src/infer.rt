@@ -1,157 +1,107 @@
 // Sources weighed, and formulas inferred from them.
-ghost use Rattle.std.specs.Prelude.{◌≡◌, ◌&&◌, ◌||◌, length, ◌<◌};
+ghost use Rattle.std.specs.Prelude.{◌≡◌};
 ghost use Rattle.inference.specs.Mirror.Inference.{WeighIs, WeighAllIs, hides_inferred, ReselectIs, InferOneIs, InferAllIs};
 
-use super::{Inferred, Sources};
-use desk::append::append;
-use desk::find::find;
-use desk::mask::has_bit;
-use desk::{Appended, View};
+use desk::{Desk, Hypotheses, List, NoRoom, View};
 use steps::Act;
 use steps::flags::change_at;
 
-pub fn either(a: bool, b: bool) -> bool
-    ensures { result ≡ (a || b) }
-{
-    if a { true } else { b }
+// What the sources of an inference say: each is there, some is selected, all are hidden.
+#[derive(Clone, Copy)]
+pub struct Sources {
+    pub there: bool,
+    pub selected: bool,
+    pub hidden: bool,
 }
 
-fn both(a: bool, b: bool) -> bool
-    ensures { result ≡ (a && b) }
-{
-    if a { b } else { false }
+impl Sources {
+    // One more source, found at a position or nowhere.
+    #[tactic(auto, using(crate::proofs::SourceLaws::sources))]
+    fn weigh(self, view: View, at: Option<usize>) -> Sources
+        ensures { WeighIs view at self result }
+    {
+        match at {
+            Some(i) => Sources {
+                selected: self.selected || view.is_selected(i),
+                hidden: self.hidden && view.is_hidden(i),
+                ..self
+            },
+            None => Sources {
+                there: false,
+                hidden: false,
+                ..self
+            },
+        }
+    }
+
+    // "D: S fails and all sources are hidden"
+    #[tactic(auto, unfolding(crate::specs::Mirror::Inference::hides_inferred))]
+    fn hides_inferred(self) -> bool
+        ensures { result ≡ hides_inferred self }
+    {
+        !self.selected && self.hidden
+    }
 }
 
-// One more source, at position i.
-pub fn weigh(v: View, i: usize, j: Sources) -> Sources
-    ensures { WeighIs v i j result }
+// The sources of a list.
+#[tactic(auto, using(crate::proofs::SourceLaws::sources))]
+pub fn weigh_all(hypotheses: Hypotheses, list: &List) -> Sources
+    ensures { WeighAllIs hypotheses.entry list.now result }
 {
-    if v.hypotheses <= i {
-        return Sources {
-            there: false,
-            selected: j.selected,
-            hidden: false,
-        };
-    }
-    if 63 < i {
-        return j;
-    }
-    Sources {
-        there: j.there,
-        selected: either(j.selected, has_bit(v.selected, i)),
-        hidden: both(j.hidden, has_bit(v.hidden, i)),
-    }
-}
-
-// The n sources of a list.
-pub fn weigh_all(
-    desk: &[u8],
-    places: &[usize; 65],
-    v: View,
-    list: &[u8],
-    starts: &[usize],
-    n: usize,
-) -> Sources
-    requires { n < length starts.now }
-    ensures { WeighAllIs desk.now places.now v list.now starts.now n result }
-{
-    let mut j = Sources {
+    let mut sources = Sources {
         there: true,
         selected: false,
         hidden: true,
     };
-    let mut i = 0;
-    while i < n {
-        let at = find(desk, places, v.hypotheses, list, starts[i], starts[i + 1]);
-        j = weigh(v, at, j);
-        i += 1;
+    for i in 0..list.count {
+        let at = hypotheses.find(list.formula(i));
+        sources = sources.weigh(hypotheses.view, at);
     }
-    j
-}
-
-// "D: S fails and all sources are hidden"
-pub fn hides_inferred(j: Sources) -> bool
-    ensures { result ≡ hides_inferred j }
-{
-    if j.selected { false } else { j.hidden }
+    sources
 }
 
 // Under S, a hypothesis that was visible before the act is reselected; one at a later position was appended by the act.
+#[tactic(auto, using(crate::proofs::InferLaws::reselecting))]
 fn reselects(before: View, i: usize, selected: bool) -> bool
     ensures { ReselectIs before i selected result }
 {
-    if before.hypotheses <= i {
-        return false;
-    }
-    if 63 < i {
-        return false;
-    }
-    if has_bit(before.hidden, i) {
-        false
-    } else {
-        selected
-    }
+    i < before.hypotheses && !before.is_hidden(i) && selected
 }
 
-// Infers x[a..e] from sources that are there; `before` is the view before the act.
-pub fn infer_one(
+// Infers a formula from sources that are there, and says whether it is reselected; `before` is the view before the act.
+#[tactic(auto, using(crate::proofs::InferLaws::infers))]
+fn infer_one(
+    desk: &mut Desk,
     before: View,
-    j: Sources,
-    desk: &mut [u8],
-    places: &mut [usize; 65],
-    v: View,
-    x: &[u8],
-    a: usize,
-    e: usize,
-) -> Inferred
-    requires { length desk.old ≡ 60000 }
-    ensures desk_len { length desk.new ≡ 60000 }
-    ensures infer_one_is { InferOneIs before j desk.old places.old v x.now a e desk.new places.new result }
+    sources: Sources,
+    formula: &[u8],
+) -> Result<bool, NoRoom>
+    ensures { InferOneIs before sources desk.old formula.now desk.new result }
 {
-    let i = find(desk, places, v.hypotheses, x, a, e);
-    if i < v.hypotheses {
-        if reselects(before, i, j.selected) {
-            return Inferred::Done(change_at(v, i, Act::Select), true);
+    match desk.hypotheses().find(formula) {
+        Some(i) => {
+            let again = reselects(before, i, sources.selected);
+            if again {
+                desk.view = change_at(desk.view, i, Act::Select);
+            }
+            Ok(again)
         }
-        return Inferred::Done(v, false);
-    }
-    let r = append(desk, places, v, x, a, e, hides_inferred(j), j.selected);
-    match r {
-        Appended::NoRoom => Inferred::NoRoom,
-        Appended::Done(w) => Inferred::Done(w, false),
+        None => {
+            desk.append(formula, sources.hides_inferred(), sources.selected)?;
+            Ok(false)
+        }
     }
 }
 
-// Infers the n formulas of a list.
-pub fn infer_all(
-    j: Sources,
-    desk: &mut [u8],
-    places: &mut [usize; 65],
-    v: View,
-    list: &[u8],
-    starts: &[usize],
-    n: usize,
-) -> Inferred
-    requires desk_len { length desk.old ≡ 60000 }
-    requires n_in_bounds { n < length starts.now }
-    ensures desk_len_after { length desk.new ≡ 60000 }
-    ensures infer_all_is { InferAllIs j desk.old places.old v list.now starts.now n desk.new places.new result }
+// Infers the formulas of a list, and says whether one of them is reselected.
+#[tactic(auto, using(crate::proofs::InferLaws::inferring))]
+pub fn infer_all(desk: &mut Desk, sources: Sources, list: &List) -> Result<bool, NoRoom>
+    ensures { InferAllIs sources desk.old list.now desk.new result }
 {
-    let mut w = v;
+    let before = desk.view;
     let mut again = false;
-    let mut i = 0;
-    while i < n {
-        let r = infer_one(v, j, desk, places, w, list, starts[i], starts[i + 1]);
-        match r {
-            Inferred::NoRoom => {
-                return Inferred::NoRoom;
-            }
-            Inferred::Done(u, b) => {
-                w = u;
-                again = either(again, b);
-            }
-        }
-        i += 1;
+    for i in 0..list.count {
+        again |= infer_one(desk, before, sources, list.formula(i))?;
     }
-    Inferred::Done(w, again)
+    Ok(again)
 }

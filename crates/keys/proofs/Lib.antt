@@ -1,6 +1,6 @@
 -- The map of what the crate proves. For callers: Soundness and Typing (the lists are right), TableIs and RowIs (the table and a row's test are the lists'), StripIs.
 
--- Laws: the cases of the code's definitions, as its functions need them
+-- Laws: what the functions need of stripping
 pub mod Laws
 -- TableIs: the packed table is the lists, group by group and column by column
 pub mod TableIs

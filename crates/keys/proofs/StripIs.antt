@@ -21,7 +21,7 @@ use Rattle.formula.proofs.Shaped.{deeper}
 use Rattle.formula.proofs.Typed.{may_some}
 use Rattle.keys.specs.Strip.{Stripped, bare, strip, strip_one}
 use Rattle.keys.specs.Mirror.Stripping.{strip_from}
-use Rattle.keys.specs.declared.Bare.{Bare}
+use Rattle.keys.specs.declared.strip.Bare.{Bare}
 use Rattle.keys.proofs.Standing.{There, first_byte, row_by, plain_long, operands_there}
 
 -- the types of the operands of a node that has a type

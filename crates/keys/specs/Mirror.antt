@@ -1,4 +1,4 @@
 pub mod Stripping
 pub mod PackedKeys
-pub mod Ranges
+pub mod Constants
 pub mod RowTests

@@ -1,48 +1,37 @@
 // Document 01's keys: stripping ¬, the lists as one table, and whether a row's key is the predicate asked.
 #![tactic(auto)]
 
-pub mod ranges;
+pub mod facts;
+pub mod row;
 pub mod rows;
 pub mod strip;
 pub mod table;
 
-// Some bytes of a buffer.
-#[derive(Clone, Copy)]
+use formula::equal::same_range;
+
+// Some bytes of a buffer. No slice: what the public functions of crate `variations` promise holds of any part, also of one that
+// is out of the buffer's bounds or ends before it starts.
+#[derive(Clone, Copy, PartialEq, Eq)]
 pub struct Part {
     pub at: usize,
     pub end: usize,
 }
 
-// A predicate without its ¬, and whether it is true.
-#[derive(Drop)]
-pub struct Bare {
-    pub at: usize,
-    pub value: bool,
-}
+impl Part {
+    ghost use Rattle.std.specs.Prelude.{◌≡◌, ℕ, ◌-◌};
+    ghost use Rattle.formula.specs.Mirror.Ranges.{same_range};
 
-// What the conditions of rows ask: the kind of the right side, as a bit, and which literals the sides are.
-#[derive(Clone, Copy)]
-pub struct Facts {
-    pub kind: usize,
-    pub left: usize,
-    pub right: usize,
-}
+    // How many bytes it has.
+    pub(crate) fn length(self) -> usize
+        ensures { result ≡ self.end - self.at }
+    {
+        self.end.saturating_sub(self.at)
+    }
 
-// A source: its rows in the table, where it stands without its ¬, its sides, and what its conditions ask.
-#[derive(Clone, Copy)]
-pub struct Source {
-    pub first: usize,
-    pub count: usize,
-    pub whole: Part,
-    pub left: Part,
-    pub right: Part,
-    pub facts: Facts,
-}
-
-// A predicate to be looked for, and its code.
-#[derive(Clone, Copy)]
-pub struct Asked {
-    pub code: usize,
-    pub at: usize,
-    pub end: usize,
+    // Whether these bytes of s are those of another part of t; `==` of parts compares their places.
+    pub(crate) fn is(self, s: &[u8], t: &[u8], other: Part) -> bool
+        ensures { result ≡ same_range s.now self.at self.end t.now other.at other.end }
+    {
+        same_range(s, self.at, self.end, t, other.at, other.end)
+    }
 }

@@ -2,34 +2,30 @@
 ghost use Rattle.std.specs.Prelude.{◌≡◌};
 ghost use Rattle.keys.specs.Mirror.Stripping.{strip_at};
 
-use super::Bare;
-use formula::bytes::byte_at;
+use formula::LEVELS;
 
-const NOT: usize = 0x03;
+const NOT: u8 = 0x03;
 
-// Strips all ¬, flipping each time.
+// Where a predicate without its ¬ starts, and whether it is true.
+#[derive(Clone, Copy, PartialEq, Eq)]
+pub struct Bare {
+    pub at: usize,
+    pub value: bool,
+}
+
+// Strips all ¬, flipping each time: 32 levels have at most 31.
+#[tactic(auto, using(crate::proofs::Laws::strips), unfolding(crate::specs::Mirror::Stripping::strip_at))]
 pub fn strip_at(s: &[u8], at: usize, starts: bool) -> Bare
     ensures { result ≡ strip_at s.now at starts }
 {
-    // the buffer's length bounds the places in it
-    let len = s.len();
     let mut p = at;
     let mut value = starts;
-    let mut left = 32usize;
-    while left != 0 {
-        let c = byte_at(s, p);
-        if c != NOT {
-            return Bare {
-                at: p,
-                value: value,
-            };
-        }
+    for _ in 0..LEVELS {
+        let Some(&NOT) = s.get(p) else {
+            return Bare { at: p, value };
+        };
         p += 1;
         value = !value;
-        left -= 1;
     }
-    Bare {
-        at: p,
-        value: value,
-    }
+    Bare { at: p, value }
 }

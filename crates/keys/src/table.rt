@@ -2,25 +2,12 @@
 ghost use Rattle.std.specs.Prelude.{◌≡◌, ℕ, ◌+◌};
 ghost use Rattle.keys.specs.Mirror.PackedKeys.{key_table, key_at};
 
-// The columns of a row, a byte each: the bit where each starts.
-pub const RELATION: u64 = 0;
+use super::row::{CONDITION, COUNT, Condition, LEFT, RIGHT, Row, Side, VALUE};
 
-pub const LEFT: u64 = 8;
-
-pub const RIGHT: u64 = 16;
-
-pub const CONDITION: u64 = 24;
-
-pub const VALUE: u64 = 32;
-
-// Before the rows, a number for each kind of source: where its rows start, and how many they are.
-pub const FIRST: u64 = 0;
-
-pub const COUNT: u64 = 8;
-
+// Before the rows, a number for each group of rows: where they start, and how many they are.
 const ROWS: u64 = 1 << COUNT;
 
-// ---- the relation of a key
+// ---- the relation of a key: the code of its node, a byte of document 01 in the lowest column
 const EQ: u64 = 0x10;
 
 const LT: u64 = 0x11;
@@ -37,46 +24,46 @@ const SUB: u64 = 0x16;
 
 const SUBE: u64 = 0x17;
 
-// ---- its two sides: those of the source (L is 0, R is 1), the literal 0 (Z is 2), ℕ (3) and ℕ1 (4)
-const L_R: u64 = 0x010000;
+// ---- its two sides
+const L_R: u64 = ((Side::Left as u64) << LEFT) + ((Side::Right as u64) << RIGHT);
 
-const R_L: u64 = 0x000100;
+const R_L: u64 = ((Side::Right as u64) << LEFT) + ((Side::Left as u64) << RIGHT);
 
-const L_Z: u64 = 0x020000;
+const L_Z: u64 = ((Side::Left as u64) << LEFT) + ((Side::Zero as u64) << RIGHT);
 
-const Z_L: u64 = 0x000200;
+const Z_L: u64 = ((Side::Zero as u64) << LEFT) + ((Side::Left as u64) << RIGHT);
 
-const R_Z: u64 = 0x020100;
+const R_Z: u64 = ((Side::Right as u64) << LEFT) + ((Side::Zero as u64) << RIGHT);
 
-const Z_R: u64 = 0x010200;
+const Z_R: u64 = ((Side::Zero as u64) << LEFT) + ((Side::Right as u64) << RIGHT);
 
-const L_NAT: u64 = 0x030000;
+const L_NAT: u64 = ((Side::Left as u64) << LEFT) + ((Side::Nat as u64) << RIGHT);
 
-const R_NAT: u64 = 0x030100;
+const R_NAT: u64 = ((Side::Right as u64) << LEFT) + ((Side::Nat as u64) << RIGHT);
 
-const L_NAT1: u64 = 0x040000;
+const L_NAT1: u64 = ((Side::Left as u64) << LEFT) + ((Side::Nat1 as u64) << RIGHT);
 
-const R_NAT1: u64 = 0x040100;
+const R_NAT1: u64 = ((Side::Right as u64) << LEFT) + ((Side::Nat1 as u64) << RIGHT);
 
-// ---- its condition, if it has one: = of integers or sets; l or r is 0; l is a positive or a negative literal
-const IF_INTEGERS: u64 = 1 << CONDITION;
+// ---- its condition, if it has one
+const IF_INTEGERS: u64 = (Condition::Integers as u64) << CONDITION;
 
-const IF_SETS: u64 = 2 << CONDITION;
+const IF_SETS: u64 = (Condition::Sets as u64) << CONDITION;
 
-const IF_ZERO_LEFT: u64 = 3 << CONDITION;
+const IF_ZERO_LEFT: u64 = (Condition::ZeroLeft as u64) << CONDITION;
 
-const IF_ZERO_RIGHT: u64 = 4 << CONDITION;
+const IF_ZERO_RIGHT: u64 = (Condition::ZeroRight as u64) << CONDITION;
 
-const IF_POSITIVE: u64 = 5 << CONDITION;
+const IF_POSITIVE: u64 = (Condition::PositiveLeft as u64) << CONDITION;
 
-const IF_NEGATIVE: u64 = 6 << CONDITION;
+const IF_NEGATIVE: u64 = (Condition::NegativeLeft as u64) << CONDITION;
 
 // ---- the truth value that stands for it
 const FALSE: u64 = 0;
 
 const TRUE: u64 = 1 << VALUE;
 
-const KEYS: [u64; 179] = [
+static KEYS: [u64; 179] = [
     // =, true
     19 + 24 * ROWS,
     // <, true
@@ -295,23 +282,18 @@ const KEYS: [u64; 179] = [
     FALSE,
 ];
 
-// The table, to be made once and lent.
-pub fn key_table() -> [u64; 179]
-    ensures { result ≡ key_table }
+// The whole table; its proof alone reads it.
+#[tactic(auto, unfolding(crate::specs::Mirror::PackedKeys::key_table, crate::specs::Keys::rows_of))]
+fn keys() -> &'static [u64]
+    ensures { result.now ≡ key_table }
 {
-    KEYS
+    &KEYS
 }
 
 // The row k of those that start at `first`; 0 where there is none.
-pub fn key_at(keys: &[u64; 179], first: usize, k: usize) -> u64
-    requires { keys.now ≡ key_table }
-    ensures { result ≡ key_at (first + k) }
+#[tactic(auto, unfolding(crate::specs::Mirror::PackedKeys::key_at))]
+pub fn key_at(first: usize, k: usize) -> Row
+    ensures { result.0 ≡ key_at (first + k) }
 {
-    if 179 <= first {
-        return 0;
-    }
-    if 179 - first <= k {
-        return 0;
-    }
-    keys[first + k]
+    Row(keys().get(first.saturating_add(k)).copied().unwrap_or(0))
 }

@@ -1,4 +1,5 @@
 -- Going on with what was read: as the code does it, and as the definition does it.
+use Rattle.std.specs.Prelude.{Result, Ok, Err}
 use Prim.Native.Nat.{ℕ, ◌+◌}
 use mathlib.Core.Path.{◌≡◌, refl}
 use mathlib.Core.Bool.{Bool, true, false, not, ◌&&◌}
@@ -9,27 +10,26 @@ use borrow.Author.Tests.{eqb-true, ne_eqb}
 use Rattle.formula.specs.Pick.{pick, or_else}
 use Rattle.reader.specs.Mirror.Walk.{on_read}
 use Rattle.formula.specs.Reading.{Parsed, got, not_got, on_got}
-use Rattle.reader.specs.declared.Got.{Got}
-use Rattle.reader.specs.declared.Answer.{Answer}
-use Rattle.reader.specs.declared.Answer.TheVariants as answer
+use Rattle.reader.specs.declared.reader.Got.{Got}
+use Rattle.refusal.specs.declared.Refusal.{Refusal}
 
 -- what the code answers of a formula, or formulas, that the definition reads
-abbrev pub answered : {A : Type 0} → Parsed A → (A → ℕ → Answer) → Answer
+abbrev pub answered : {A : Type 0} → Parsed A → (A → ℕ → Result Got Refusal) → Result Got Refusal
 answered (got a q) K = K a q
-answered (not_got c p) K = answer.Refused (record { cause = c; at = p })
+answered (not_got c p) K = Err (record { cause = c; at = p })
 
-abbrev pub gives : ℕ → ℕ → Answer
-gives n b = answer.Read (record { next = n; bad = b })
+abbrev pub gives : ℕ → ℕ → Result Got Refusal
+gives n b = Ok (record { next = n; bad = b })
 
-pub answered_same : {A : Type 0} (z : Parsed A) (K L : A → ℕ → Answer) → ((a : A) (q : ℕ) → z ≡ got a q → K a q ≡ L a q) → answered z K ≡ answered z L
+pub answered_same : {A : Type 0} (z : Parsed A) (K L : A → ℕ → Result Got Refusal) → ((a : A) (q : ℕ) → z ≡ got a q → K a q ≡ L a q) → answered z K ≡ answered z L
 answered_same (got a q) K L h = h a q refl
 answered_same (not_got c p) K L h = refl
 
-pub answered_on : {A B : Type 0} (z : Parsed A) (f : A → ℕ → Parsed B) (K : B → ℕ → Answer) → answered (on_got z f) K ≡ answered z (λ a q. answered (f a q) K)
+pub answered_on : {A B : Type 0} (z : Parsed A) (f : A → ℕ → Parsed B) (K : B → ℕ → Result Got Refusal) → answered (on_got z f) K ≡ answered z (λ a q. answered (f a q) K)
 answered_on (got a q) f K = refl
 answered_on (not_got c p) f K = refl
 
-pub answered_read : {A : Type 0} (z : Parsed A) (b : A → ℕ → ℕ) (K : Got → Answer) → on_read (answered z (λ a q. gives q (b a q))) K ≡ answered z (λ a q. K (record { next = q; bad = b a q }))
+pub answered_read : {A : Type 0} (z : Parsed A) (b : A → ℕ → ℕ) (K : Got → Result Got Refusal) → on_read (answered z (λ a q. gives q (b a q))) K ≡ answered z (λ a q. K (record { next = q; bad = b a q }))
 answered_read (got a q) b K = refl
 answered_read (not_got c p) b K = refl
 

@@ -1,4 +1,5 @@
 -- A list of operands: what the code answers of it is what document 01 says, once for every count.
+use Rattle.std.specs.Prelude.{Result}
 use Prim.Native.Nat.{ℕ, zero, suc, ◌+◌, ◌≤◌}
 use mathlib.Core.Path.{◌≡◌, sym, ap, ◌∙◌}
 use mathlib.Core.Bool.{false, not, ◌&&◌}
@@ -17,11 +18,11 @@ use Rattle.reader.specs.Mirror.Node.{Ops, head_at}
 use Rattle.reader.specs.Mirror.Walk.{on_head, on_read, below_at, list_with, next_want, unlike, bad_after, end_of}
 use Rattle.formula.specs.Reading.{Parsed, got, on_got, operands_by, formula_at}
 use Rattle.formula.specs.declared.Sort.{Sort}
-use Rattle.reader.specs.declared.Got.{Got}
-use Rattle.reader.specs.declared.Answer.{Answer}
+use Rattle.reader.specs.declared.reader.Got.{Got}
 use Rattle.formula.proofs.Wants.{Wants}
 use Rattle.formula.proofs.Back.{read_ends}
 use Rattle.reader.proofs.Goings.{answered, gives, answered_same, answered_on, mark_of, marked, mark_more, mark_none}
+use Rattle.refusal.specs.declared.Refusal.{Refusal}
 
 -- the kind of a type, as a bit
 abbrev pub type_bit : Option Ty → ℕ
@@ -34,7 +35,7 @@ module _ (s types : List ℕ) (start l d : ℕ) where
 
   -- one operand: whatever the code goes on with, given that both go on alike
   pub record OperandIs : Type 0 where
-    pub goes : (want : ℕ) (w : Want) (σ : Sort) (p : ℕ) → Wants want w σ → start ≤ p → (K : Ops → Got → Answer) (L : Tree → ℕ → Answer)
+    pub goes : (want : ℕ) (w : Want) (σ : Sort) (p : ℕ) → Wants want w σ → start ≤ p → (K : Ops → Got → Result Got Refusal) (L : Tree → ℕ → Result Got Refusal)
         → ((x : Tree) (q : ℕ) (o : Ops) → formula_here σ p ≡ got x q → o.ty ≡ type_bit (head_type (types_of types) x) → K o (record { next = q; bad = mark_of (first_wrong (types_of types) p x) }) ≡ L x q)
         → on_head (head_at s types (end_of (length s) start) d l want p) (λ o. on_read (below_at l s types (end_of (length s) start) d o) (λ g. K o g)) ≡ answered (formula_here σ p) L
     -- what stands there has a type by its head
@@ -51,11 +52,11 @@ module _ (s types : List ℕ) (start l d : ℕ) where
     unfolding bad_after unlike
     mark_is want ks σ W left p bad below o τ e = rw e (simp (W.by_kind (kind_of τ), some-others))
 
-    abbrev list_here : ℕ → ℕ → ℕ → ℕ → Answer
+    abbrev list_here : ℕ → ℕ → ℕ → ℕ → Result Got Refusal
     list_here n want p bad = list_with (head_at s types (end_of (length s) start) d l) (below_at l s types (end_of (length s) start) d) s types others parent n want p bad
 
     -- what the operands from p on are to be answered with
-    abbrev marks : List Kind → ℕ → ℕ → Trees → ℕ → Answer
+    abbrev marks : List Kind → ℕ → ℕ → Trees → ℕ → Result Got Refusal
     marks ks p bad xs q = gives q (marked (may_all (among ks) (these js) (head_types (types_of types) xs)) parent bad (first_wrong_in (types_of types) p xs))
 
     one_more : (n want : ℕ) (ks : List Kind) (σ : Sort) → Wants want (among ks) σ → (p bad : ℕ) (x : Tree) (m : ℕ) (o : Ops) → formula_here σ p ≡ got x m → o.ty ≡ type_bit (head_type (types_of types) x)

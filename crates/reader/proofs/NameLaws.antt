@@ -8,6 +8,7 @@ use native.Mathlib.Omega.{arith}
 use lib.ListN.{length, get_or}
 use lib.Dec.{eqb, ltb, leb}
 use lib.Bits.{bit_and, and_step, and_zero_r}
+use Rattle.std.specs.Prelude.{Option, Some, None}
 use borrow.Author.Tests.{lt-leb, ne_eqb, leb-false, eqb-true, eqb-false, ltb-true}
 use Rattle.formula.specs.Pick.{pick}
 use Rattle.formula.specs.Codes.{codes}
@@ -75,25 +76,26 @@ ident_no_pair types n = go (ltb n (length types)) (eqb (get_or types n 0) 0) (eq
     go true false false = refl
     go false b c = refl
 
-some_arm : (b : Bool) (v : ℕ) → (pick b 0 v ≡ 0 → ⊥) → (b ≡ false) × (pick b 0 v ≡ v)
-some_arm true v h = absurd (h refl)
-some_arm false v h = (refl, refl)
+some_arm : (b : Bool) (o : Option ℕ) (v : ℕ) → pick b None o ≡ Some v → (b ≡ false) × (o ≡ Some v)
+some_arm true o v h = absurd (cc)
+some_arm false o v h = (refl, h)
 
-other_arm : (b : Bool) (v : ℕ) → (pick b v 0 ≡ 0 → ⊥) → (b ≡ true) × (pick b v 0 ≡ v)
-other_arm true v h = (refl, refl)
-other_arm false v h = absurd (h refl)
+other_arm : (b : Bool) (o : Option ℕ) (v : ℕ) → pick b o None ≡ Some v → (b ≡ true) × (o ≡ Some v)
+other_arm true o v h = (refl, h)
+other_arm false o v h = absurd (cc)
 
-module _ (s types : List ℕ) (end want at : ℕ) (h : name_at s types end want at ≡ 0 → ⊥) where
+module _ (s types : List ℕ) (end want at v : ℕ) (h : name_at s types end want at ≡ Some v) where
   abbrev kind_here : ℕ
   kind_here = ident_type types (byte_at s (at + 1))
 
-  pub name_stood : (at + 1 < end) × ((byte_at s at ≡ 32) × ((eqb (bit_and want kind_here) 0 ≡ false) × (name_at s types end want at ≡ kind_here)))
+  pub name_stood : (at + 1 < end) × ((byte_at s at ≡ 32) × ((eqb (bit_and want kind_here) 0 ≡ false) × (v ≡ kind_here)))
   unfolding name_at
   name_stood =
-      let a = some_arm (leb end (at + 1)) _ h in
-      let b = other_arm (eqb (byte_at s at) 32) _ (λ z. h (a.1 ∙ z)) in
-      let c = some_arm (eqb (bit_and want kind_here) 0) kind_here (λ z. h (a.1 ∙ b.1 ∙ z)) in
-      (leb-false _ _ a.0, (eqb-true _ _ b.0, (c.0, a.1 ∙ b.1 ∙ c.1)))
+      let a = some_arm (leb end (at + 1)) _ v h in
+      let b = other_arm (eqb (byte_at s at) 32) _ v a.1 in
+      let c = some_arm (eqb (bit_and want kind_here) 0) (Some kind_here) v b.1 in
+      let d = c.1 in
+      (leb-false _ _ a.0, (eqb-true _ _ b.0, (c.0, cc)))
 
   name_known : eqb (bit_and want kind_here) 0 ≡ false → byte_at s (at + 1) < length types
   unfolding ident_type

@@ -1,20 +1,19 @@
 -- The cases of one node's own bytes.
 use Prim.Native.Nat.{ℕ, ◌+◌, ◌-◌, ◌<◌, ◌≤◌}
-use mathlib.Core.Path.{◌≡◌, refl, sym, ◌∙◌}
+use mathlib.Core.Path.{◌≡◌, refl, sym}
 use mathlib.Core.Bool.{Bool, true, false}
 use mathlib.Core.List.{List}
 use mathlib.Core.Option.{Option, some, none}
-use native.Mathlib.Nat.{add-zero}
 use native.Mathlib.Omega.{arith}
-use lib.ListN.{length, get_or}
+use lib.ListN.{length}
 use lib.Dec.{eqb, leb}
 use lib.Bits.{bit_and}
-use borrow.Author.Tests.{le-leb, lt-leb, eq-eqb, ne_eqb, leb-false}
+use borrow.Author.Tests.{lt-leb, ne_eqb, leb-false}
 use Rattle.formula.specs.Pick.{pick}
 use Rattle.formula.specs.NodeTable.{Number, nothing, identifier, index, word, count, variables}
 use Rattle.formula.specs.NodeFault.{Fault, number_out, number_fault, node_fault}
-use Rattle.formula.specs.Mirror.PackedTable.{row_at, field, own, sort, number_in, ident_type, type_by}
-use Rattle.reader.specs.Mirror.Node.{Ops, Head, fine, faulty, the_ops, head_fault, head_row, head_at, refusal_by, refusal_row, refusal_at, seen_at, refused_here, name_at}
+use Rattle.formula.specs.Mirror.PackedTable.{row_at, own, sort, number_in}
+use Rattle.reader.specs.Mirror.Node.{Ops, Head, fine, faulty, the_ops, head_fault, head_row, head_at, refusal_by, refusal_row, refusal_at, refused_here}
 use Rattle.formula.specs.Mirror.Bytes.{byte_at, own_byte}
 use Rattle.refusal.specs.declared.Cause.{Cause}
 use Rattle.refusal.specs.declared.Cause.TheVariants as cause
@@ -23,7 +22,7 @@ use Rattle.formula.proofs.Choices.{never}
 use Rattle.formula.proofs.FaultLaws.{Faultless, no_fault, some_fault}
 
 -- ---- the refusal of a node of which something is wrong
-number_offset : (ν : Number) → (number_fault ν).offset ≡ 0
+pub number_offset : (ν : Number) → (number_fault ν).offset ≡ 0
 number_offset nothing = refl
 number_offset identifier = refl
 number_offset index = refl
@@ -33,63 +32,6 @@ number_offset (variables lo hi) = refl
 
 abbrev found : Cause → ℕ → Refusal
 found c at = record { cause = c; at = at }
-
-module _ (len t d level want at x n o : ℕ) (e : o ≡ field x 0) where
-  pub row_cut : len - at ≤ o → found cause.Length at ≡ refusal_row len t d level want at x n
-  unfolding refusal_row
-  row_cut h = simp (← e, le-leb _ _ h, add-zero)
-
-  module _ (h : o < len - at) (f : ℕ) (g : f ≡ field x 56) where
-    pub row_sort : bit_and want f ≡ 0 → found cause.Code at ≡ refusal_row len t d level want at x n
-    unfolding refusal_row
-    row_sort k = simp (← e, lt-leb _ _ h, ← g, eq-eqb _ _ k, add-zero)
-
-    module _ (i : bit_and want f ≡ 0 → ⊥) (b : Bool) (l : b ≡ number_out (number_in x) n t d) where
-      pub row_number : (c : Cause) → b ≡ true → c ≡ (number_fault (number_in x)).cause → found c at ≡ refusal_row len t d level want at x n
-      unfolding refusal_row
-      row_number c p q = rw q (simp (← e, lt-leb _ _ h, ← g, ne_eqb _ _ i, ← l, p, number_offset (number_in x), add-zero))
-
-      module _ (p : b ≡ false) where
-        pub row_deep : level ≡ 0 → found cause.Deep at ≡ refusal_row len t d level want at x n
-        unfolding refusal_row
-        row_deep u = simp (← e, lt-leb _ _ h, ← g, ne_eqb _ _ i, ← l, p, eq-eqb _ _ u, add-zero)
-
-        pub row_long : (level ≡ 0 → ⊥) → found cause.Long at ≡ refusal_row len t d level want at x n
-        unfolding refusal_row
-        row_long u = simp (← e, lt-leb _ _ h, ← g, ne_eqb _ _ i, ← l, p, ne_eqb _ _ u, add-zero)
-
-pub ruleset rows = (row_cut, row_sort, row_number, row_deep, row_long)
-
-module _ (s : List ℕ) (t d level want at : ℕ) where
-  pub refusal_at_end : length s ≤ at → found cause.Length at ≡ refusal_at s t d level want at
-  unfolding refusal_at
-  refusal_at_end h = simp (le-leb _ _ h)
-
-  pub refusal_at_row : (r : Refusal) (x n b : ℕ) → at < length s → r ≡ refusal_row (length s) t d level want at x n → x ≡ row_at b → b ≡ byte_at s at → n ≡ own_byte x s (at + 1)
-      → r ≡ refusal_at s t d level want at
-  unfolding refusal_at
-  refusal_at_row r x n b l e f g k = simp (lt-leb _ _ l, e, k, f, g)
-
-pub seen_at_is : (s types : List ℕ) (at c x n t : ℕ) → c ≡ byte_at s at → x ≡ row_at c → n ≡ own_byte x s (at + 1) → t ≡ type_by x types n → record { row = x; byte = n; ty = t } ≡ seen_at s types at
-unfolding seen_at
-seen_at_is s types at c x n t e f g h = rw (h, g, f, e) refl
-
--- ---- whether it is refused
-module _ (t end d want at x n o : ℕ) (e : o ≡ field x 0) where
-  pub refused_long : end ≤ at + o → true ≡ refused_here t end d want at x n
-  unfolding refused_here
-  refused_long h = simp (← e, le-leb _ _ h)
-
-  module _ (h : at + o < end) (f : ℕ) (g : f ≡ field x 56) where
-    pub refused_sort : bit_and want f ≡ 0 → true ≡ refused_here t end d want at x n
-    unfolding refused_here
-    refused_sort k = simp (← e, lt-leb _ _ h, ← g, eq-eqb _ _ k)
-
-    pub refused_number : (bit_and want f ≡ 0 → ⊥) → (b : Bool) → b ≡ number_out (number_in x) n t d → b ≡ refused_here t end d want at x n
-    unfolding refused_here
-    refused_number i b l = l ∙ simp (← e, lt-leb _ _ h, ← g, ne_eqb _ _ i)
-
-pub ruleset refusals = (refused_long, refused_sort, refused_number)
 
 -- ---- a head that is accepted, and one that is not
 fine_none : (at : ℕ) (f : Option Fault) (h : Head) (o : Ops) → head_fault at f h ≡ fine o → f ≡ none
@@ -154,25 +96,3 @@ module _ (s types : List ℕ) (end d level want at : ℕ) where
           let k : fault_here ≡ none → ⊥ = λ z. f (the_ops types at row_here byte_here) (rw z refl) in
           by_fault at fault_here _ _ k
           (some_fault (leb (length s - at) (own row_here)) (eqb (bit_and want (sort row_here)) 0) (number_out (number_in row_here) byte_here (length types) d) (eqb level 0) (leb end (at + own row_here)) (number_in row_here) k)
-
--- ---- an identifier
-module _ (s types : List ℕ) (end want at : ℕ) where
-  pub name_at_end : end ≤ at + 1 → 0 ≡ name_at s types end want at
-  unfolding name_at
-  name_at_end h = simp (le-leb _ _ h)
-
-  module _ (h : at + 1 < end) where
-    pub name_at_other : (get_or s at 0 ≡ 32 → ⊥) → 0 ≡ name_at s types end want at
-    unfolding name_at byte_at
-    name_at_other k = simp (lt-leb _ _ h, ne_eqb _ _ k)
-
-    module _ (k : get_or s at 0 ≡ 32) (n ty : ℕ) (n≡ : n ≡ get_or s (at + 1) 0) (ty≡ : ty ≡ ident_type types n) where
-      pub name_at_unfit : bit_and want ty ≡ 0 → 0 ≡ name_at s types end want at
-      unfolding name_at byte_at
-      name_at_unfit l = simp (lt-leb _ _ h, eq-eqb _ _ k, ← n≡, ← ty≡, eq-eqb _ _ l)
-
-      pub name_at_fit : (bit_and want ty ≡ 0 → ⊥) → ty ≡ name_at s types end want at
-      unfolding name_at byte_at
-      name_at_fit l = simp (lt-leb _ _ h, eq-eqb _ _ k, ← n≡, ← ty≡, ne_eqb _ _ l)
-
-pub ruleset names = (name_at_end, name_at_other, name_at_unfit, name_at_fit)

@@ -1,4 +1,5 @@
 -- THE READER on bytes is document 01's: of any bytes, the same answer.
+use Rattle.std.specs.Prelude.{Result}
 use Prim.Native.Nat.{ℕ, zero, suc, ◌+◌, ◌<◌, ◌≤◌}
 use mathlib.Core.Path.{◌≡◌, refl, sym, ap, ◌∙◌, subst}
 use mathlib.Core.Bool.{Bool, true, false, ◌&&◌}
@@ -25,8 +26,7 @@ use Rattle.formula.specs.Reading.{Parsed, got, not_got, on_got, node_at, node_by
 use Rattle.formula.specs.declared.Sort.{Sort}
 use Rattle.formula.specs.declared.Sort.TheVariants as sorts
 use Rattle.refusal.specs.declared.Cause.TheVariants as cause
-use Rattle.reader.specs.declared.Got.{Got}
-use Rattle.reader.specs.declared.Answer.{Answer}
+use Rattle.reader.specs.declared.reader.Got.{Got}
 use Rattle.formula.proofs.Choices.{never, and_left, and_right}
 use Rattle.formula.proofs.Every.{every, every_code}
 use Rattle.formula.proofs.TableIs.{columns_at}
@@ -41,7 +41,8 @@ use Rattle.formula.proofs.DataType.{types_of_data, sort_shaped}
 use Rattle.reader.proofs.Goings.{answered, gives, answered_same, answered_on, answered_read, mark_of, marked}
 use Rattle.reader.proofs.ListIs.{type_bit, OperandIs, operands_are}
 use Rattle.reader.proofs.SidesAre.{sides_are_law}
-use Rattle.reader.proofs.ReaderLaws.{list_starts}
+use Rattle.reader.proofs.Turns.{list_starts}
+use Rattle.refusal.specs.declared.Refusal.{Refusal}
 
 -- ---- the operands after the first: of some kinds, or, for = alone, of the type of the first
 pub data Following (r : Row) : Type 0 where
@@ -120,10 +121,10 @@ module _ (s types : List ℕ) (start : ℕ) where
 
   -- ---- the operands from i on of a node at p with the row r, under d variables
   module _ (l d p i : ℕ) (O : OperandIs s types start l d) (levels : l ≤ 32) (inside : start ≤ p) (x : ℕ) (r : Row) (L : Lists x r) (here : i ≡ p + (width r.number + 1)) where
-    abbrev list_here : ℕ → ℕ → ℕ → ℕ → Answer
+    abbrev list_here : ℕ → ℕ → ℕ → ℕ → Result Got Refusal
     list_here more want n at = list_with (head_at s types end d l) (below_at l s types end d) s types more (p + 1) n want at 0
 
-    abbrev listed : Rest → Sort → ℕ → ℕ → Answer
+    abbrev listed : Rest → Sort → ℕ → ℕ → Result Got Refusal
     listed e ρ n at =
         answered (operands_by (reads l d) n (sort_of_kinds r.first) ρ at) (λ xs q. gives q (marked (may_all (among r.first) e (head_types (types_of types) xs)) (p + 1) 0 (first_wrong_in (types_of types) at xs)))
 
@@ -203,11 +204,11 @@ module _ (s types : List ℕ) (start : ℕ) where
         let t = type_there s types x (suc l) p q T.0 S T.1 in
         (simp (lt-leb (length s) p h) at t) ∙ ap type_bit (sym T.1)
 
-    pub node_goes : node_at s (length types) (start + 1024) (suc l) d σ p ≡ got k n → (K : Ops → Got → Answer) (L : Tree → ℕ → Answer)
+    pub node_goes : node_at s (length types) (start + 1024) (suc l) d σ p ≡ got k n → (K : Ops → Got → Result Got Refusal) (L : Tree → ℕ → Result Got Refusal)
         → ((x : Tree) (q : ℕ) (o : Ops) → reads (suc l) d σ p ≡ got x q → o.ty ≡ type_bit (head_type (types_of types) x) → K o (record { next = q; bad = mark_of (first_wrong (types_of types) p x) }) ≡ L x q)
         → on_read (below_at (suc l) s types end d ops_here) (λ g. K ops_here g) ≡ answered (on_got below (λ xs q. got (node k xs) q)) L
     node_goes e K L h =
-        ap (λ (a : Answer). on_read a (λ g. K ops_here g)) below_is
+        ap (λ (a : Result Got Refusal). on_read a (λ g. K ops_here g)) below_is
         ∙ answered_read below (λ xs q. marked (right k (head_types (types_of types) xs)) (p + 1) 0 (first_wrong_in (types_of types) (p + own_length k) xs)) (λ g. K ops_here g)
         ∙ answered_same below _ _ (λ xs q f.
         let r = read_here xs q e f in
@@ -228,7 +229,7 @@ module _ (s types : List ℕ) (start : ℕ) where
     has = λ σ p x q e. has_here 0 d σ p x q e;
   }
     where
-      go : (σ : Sort) (p : ℕ) (M : Ops → Answer) (L : Tree → ℕ → Answer) (o : Ops) (z : Parsed Code) → node_at s (length types) (start + 1024) 0 d σ p ≡ z
+      go : (σ : Sort) (p : ℕ) (M : Ops → Result Got Refusal) (L : Tree → ℕ → Result Got Refusal) (o : Ops) (z : Parsed Code) → node_at s (length types) (start + 1024) 0 d σ p ≡ z
           → on_head (to_head o z) M ≡ answered (node_by (λ d σ p. not_got cause.Deep p) d p z) L
       go σ p M L o (not_got c q) e = refl
       go σ p M L o (got k n) e = no_level s (length types) (start + 1024) d σ p k n (subst (OfGot (OwnRead s (length types) (start + 1024) 0 d σ p)) e (node_read s (length types) (start + 1024) 0 d σ p))
@@ -238,7 +239,7 @@ module _ (s types : List ℕ) (start : ℕ) where
     has = λ σ p x q e. has_here (suc l) d σ p x q e;
   }
     where
-      go : ((d : ℕ) → OperandIs s types start l d) → (σ : Sort) (p : ℕ) → start ≤ p → (K : Ops → Got → Answer) (L : Tree → ℕ → Answer)
+      go : ((d : ℕ) → OperandIs s types start l d) → (σ : Sort) (p : ℕ) → start ≤ p → (K : Ops → Got → Result Got Refusal) (L : Tree → ℕ → Result Got Refusal)
           → ((x : Tree) (q : ℕ) (o : Ops) → reads (suc l) d σ p ≡ got x q → o.ty ≡ type_bit (head_type (types_of types) x) → K o (record { next = q; bad = mark_of (first_wrong (types_of types) p x) }) ≡ L x q)
           → (z : Parsed Code) → node_at s (length types) (start + 1024) (suc l) d σ p ≡ z
           → on_head (to_head (B.the_ops types p (row_at (byte_at s p)) (own_byte (row_at (byte_at s p)) s (p + 1))) z) (λ o. on_read (below_at (suc l) s types end d o) (λ g. K o g)) ≡ answered (node_by (formula_at s (length types) (start + 1024) l) d p z) L

@@ -2,7 +2,9 @@
 use Prim.Native.Nat.{ℕ, zero, suc, ◌+◌, ◌-◌, ◌<◌, ◌≤◌}
 use mathlib.Core.Path.{◌≡◌, refl, sym, ap, ◌∙◌}
 use mathlib.Core.Bool.{Bool, true, false, ◌&&◌}
-use mathlib.Core.Option.{Option, some, none}
+use mathlib.Core.Option as maybe
+use mathlib.Core.Option.{some, none}
+use Rattle.std.specs.Prelude.{Option, Some, None}
 use mathlib.Core.List.{List, [], ◌∷◌}
 use native.Mathlib.Omega.{arith}
 use lib.ListN.{length, get_or}
@@ -14,7 +16,7 @@ use Rattle.formula.specs.NodeTable.{row_of, own_length}
 use Rattle.formula.specs.Tree.{Tree, node, Trees, nil, ◌▹◌, size, number_of}
 use Rattle.formula.specs.Typing.{pair_of, head_type, head_types}
 use Rattle.reader.specs.Mirror.Shape.{is_pair, are_pairs, leaf_ends, then_shape, shape}
-use Rattle.reader.specs.declared.Ends.{Ends}
+use Rattle.reader.specs.declared.shape.Ends.{Ends}
 use Rattle.formula.proofs.Choices.{never, none_some}
 use Rattle.formula.proofs.Stands.{Stands, StandAll}
 use Rattle.formula.proofs.OwnIs.{Sense, plain, named, joined, columns_there, sense_there}
@@ -31,17 +33,17 @@ record Typed (s types : List ℕ) (l p q : ℕ) (τ : Ty) : Type 0 where
   type_is : head_type (types_of types) tree ≡ some τ
 
 -- the answer for an expression that ends at q and one that ends at r
-abbrev Shaped : Ends → Bool → ℕ → ℕ → Type 0
-Shaped e same q r = (e.same ≡ same) × (e.same ≡ true → (e.a ≡ q) × (e.b ≡ r))
+abbrev Shaped : Option Ends → Bool → ℕ → ℕ → Type 0
+Shaped o same q r = o ≡ pick same (Some (record { a = q; b = r })) None
 
 -- two pairs: if their first halves are alike, the second halves are asked
-pair_shape : (σ ρ τ υ : Ty) {m n q r : ℕ} (e : Ends) (k : ℕ → ℕ → Ends) → Shaped e (eq_ty σ τ) m n → Shaped (k m n) (eq_ty ρ υ) q r
-    → Shaped (then_shape e k) (eq_ty (pair σ ρ) (pair τ υ)) q r
-pair_shape σ ρ τ υ {m} {n} {q} {r} e k A B = rw (eq_ty_pair σ ρ τ υ, ← A.0) (go e.same refl)
+pair_shape : (σ ρ τ υ : Ty) (m n q r : ℕ) (o : Option Ends) (k : ℕ → ℕ → Option Ends) → Shaped o (eq_ty σ τ) m n → Shaped (k m n) (eq_ty ρ υ) q r
+    → Shaped (then_shape o k) (eq_ty (pair σ ρ) (pair τ υ)) q r
+pair_shape σ ρ τ υ m n q r o k A B = rw (eq_ty_pair σ ρ τ υ, A) (go (eq_ty σ τ))
   where
-    go : (v : Bool) → e.same ≡ v → Shaped (then_shape e k) (e.same && eq_ty ρ υ) q r
-    go true w = let z = A.1 w in simp (w, z.0, z.1) B
-    go false w = simp w (refl, λ z. never z)
+    go : (v : Bool) → Shaped (then_shape (pick v (Some (record { a = m; b = n })) None) k) (v && eq_ty ρ υ) q r
+    go true = B
+    go false = refl
 
 base_bit : (b : Base) → eqb (bit (one b)) 64 ≡ false
 base_bit prop = refl
@@ -56,7 +58,7 @@ byte_base zero = refl
 byte_base (suc zero) = refl
 byte_base (suc (suc b)) = refl
 
-pair_parts : (o u : Option Ty) (σ τ : Ty) → pair_of (o ∷ u ∷ []) ≡ some (pair σ τ) → (o ≡ some σ) × (u ≡ some τ)
+pair_parts : (o u : maybe.Option Ty) (σ τ : Ty) → pair_of (o ∷ u ∷ []) ≡ some (pair σ τ) → (o ≡ some σ) × (u ≡ some τ)
 pair_parts none u σ τ e = none_some e
 pair_parts (some a) none σ τ e = none_some e
 pair_parts (some a) (some b) σ τ e = (cc, cc)
@@ -141,7 +143,7 @@ module _ (s types : List ℕ) where
   leaf_shape {l} {m} {a} {b} {q} {r} {σ} {τ} X Y n =
       let i = type_there s types X.tree l a q σ X.stands X.type_is in
       let j = type_there s types Y.tree m b r τ Y.stands Y.type_is in
-      (rw (i, j) (bits_tell σ τ n), λ z. (skip_is s (length types) X.tree l a q X.stands X.short, skip_is s (length types) Y.tree m b r Y.stands Y.short))
+      rw (i, j, skip_is s (length types) X.tree l a q X.stands X.short, skip_is s (length types) Y.tree m b r Y.stands Y.short, bits_tell σ τ n) refl
 
   shape_typed : (f : ℕ) {l m a b q r : ℕ} {σ τ : Ty} → l ≤ f → Typed s types l a q σ → Typed s types m b r τ → Shaped (shape f s types a b) (eq_ty σ τ) q r
   unfolding shape
@@ -153,11 +155,11 @@ module _ (s types : List ℕ) where
       let K = halves Y in
       let A = shape_typed f (omega (arith, h)) H.1 K.1 in
       let B = shape_typed f (omega (arith, h)) H.2 K.2 in
-      simp (are_pairs_law X Y) (pair_shape σ ρ τ υ (shape f s types (a + 1) (b + 1)) (λ x y. shape f s types x y) A B)
+      simp (are_pairs_law X Y) (pair_shape σ ρ τ υ _ _ _ _ (shape f s types (a + 1) (b + 1)) (λ x y. shape f s types x y) A B)
 
 -- THE LAW of the comparison: on two expressions it says whether their types are one, and if so where they end
 module _ (s types : List ℕ) (f l m a b q r : ℕ) (x y : Tree) (σ τ : Ty) where
   pub shape_is : l ≤ f → Stands s (length types) l a x q → Stands s (length types) m b y r → q ≤ a + 1024 → r ≤ b + 1024
       → head_type (types_of types) x ≡ some σ → head_type (types_of types) y ≡ some τ
-      → ((shape f s types a b).same ≡ eq_ty σ τ) × ((shape f s types a b).same ≡ true → ((shape f s types a b).a ≡ q) × ((shape f s types a b).b ≡ r))
+      → shape f s types a b ≡ pick (eq_ty σ τ) (Some (record { a = q; b = r })) None
   shape_is h S R i j e d = shape_typed s types f h (record { tree = x; stands = S; short = i; type_is = e }) (record { tree = y; stands = R; short = j; type_is = d })

@@ -1,4 +1,6 @@
 -- The two sides of =: the second is to be of the type of the first, pairs by shape.
+use Rattle.std.specs.Prelude.{Result, Some, None, is_some}
+use Rattle.reader.specs.declared.shape.Ends.{Ends}
 use Prim.Native.Nat.{ℕ, ◌+◌, ◌≤◌}
 use mathlib.Core.Path.{◌≡◌, refl, sym, ap, ◌∙◌, subst}
 use mathlib.Core.Bool.{Bool, true, false, not, ◌&&◌}
@@ -7,6 +9,7 @@ use mathlib.Core.List.{List, [], ◌∷◌}
 use native.Mathlib.Omega.{arith}
 use lib.ListN.{length}
 use lib.Dec.{eqb}
+use Rattle.std.proofs.Math.Bool.{and-true}
 use Rattle.formula.specs.Pick.{pick, or_else}
 use Rattle.formula.specs.Types.{Base, Base-discrete, prop, int, boo, set, nats, nats1, Ty, base, pair, kind_of, Kind, Kind-discrete, one, types_of, among, same, as_first, may, may_all, eq_kind, eq_ty}
 use Rattle.formula.specs.Tree.{Tree, Trees, nil, ◌▹◌, encode}
@@ -17,7 +20,6 @@ use Rattle.reader.specs.Mirror.Walk.{below_at, list_with, next_want, unlike, bad
 use Rattle.reader.specs.Mirror.Shape.{shape}
 use Rattle.formula.specs.Reading.{got, on_got, operands_by}
 use Rattle.formula.specs.declared.Sort.{Sort}
-use Rattle.reader.specs.declared.Answer.{Answer}
 use Rattle.formula.proofs.Choices.{never}
 use Rattle.formula.proofs.Wants.{Wants, same_wants, one_hot}
 use Rattle.formula.proofs.Back.{read_ends}
@@ -26,6 +28,8 @@ use Rattle.formula.proofs.SameType.{same_test, eq_ty→eq, eq→eq_ty}
 use Rattle.reader.proofs.ShapeIs.{shape_is}
 use Rattle.reader.proofs.Goings.{answered, gives, answered_same, answered_on, mark_of, marked, mark_more}
 use Rattle.reader.proofs.ListIs.{type_bit, formula_here, OperandIs}
+use Rattle.refusal.specs.declared.Refusal.{Refusal}
+use Rattle.reader.specs.declared.reader.Got.{Got}
 
 -- ---- types by their kinds
 kind_same : (j k : Kind) → eq_kind j k ≡ true → j ≡ k
@@ -53,15 +57,15 @@ no_pair = elim [ prop ↦ refl | int ↦ refl | boo ↦ refl | set ↦ refl | na
 
 -- the code's two tests, of kinds and of the shape of pairs, are one test of types
 two_tests : (σ τ : Ty) (b : Bool) (parent z : ℕ) → b ≡ eq_ty σ τ
-    → pick (not (eq_kind (kind_of σ) (kind_of τ))) parent (pick (pick (eqb (bit (kind_of τ)) 64) (pick b false true) false) parent z) ≡ pick (not (eq_ty σ τ)) parent z
+    → pick (not (eq_kind (kind_of σ) (kind_of τ))) parent (pick (pick (eqb (bit (kind_of τ)) 64) (not b) false) parent z) ≡ pick (not (eq_ty σ τ)) parent z
 two_tests (base a) (base c) b parent z e = rw (no_pair c, base_kinds a c) refl
 two_tests (base a) (pair τ υ) b parent z e = refl
 two_tests (pair σ ρ) (base c) b parent z e = refl
-two_tests (pair σ ρ) (pair τ υ) b parent z e = rw (← e) (go b)
-  where
-    go : (b : Bool) → pick (pick b false true) parent z ≡ pick (not b) parent z
-    go true = refl
-    go false = refl
+two_tests (pair σ ρ) (pair τ υ) b parent z e = rw (← e) refl
+
+ends_there : (b : Bool) (e : Ends) → is_some (pick b (Some e) None) ≡ b
+ends_there true e = refl
+ends_there false e = refl
 
 turned : (b : Bool) (parent z : ℕ) → pick (not b) parent z ≡ pick b z parent
 turned true parent z = refl
@@ -71,13 +75,9 @@ or_none : (o : Option ℕ) → or_else o none ≡ o
 or_none none = refl
 or_none (some p) = refl
 
-and_true : (b : Bool) → (b && true) ≡ b
-and_true true = refl
-and_true false = refl
-
 -- two operands of which the second is to be of the type of the first
 two_may : (ks : List Kind) (o r : Option Ty) (τ υ : Ty) → o ≡ some τ → r ≡ some υ → may_all (among ks) as_first (o ∷ r ∷ []) ≡ (may (among ks) o && eq_ty τ υ)
-two_may ks o r τ υ a c = rw (a, c) (ap (λ (b : Bool). may (among ks) (some τ) && b) (and_true (eq_ty τ υ)))
+two_may ks o r τ υ a c = rw (a, c) (ap (λ (b : Bool). may (among ks) (some τ) && b) (and-true (eq_ty τ υ)))
 
 module _ (s types : List ℕ) (start l d : ℕ) (O : OperandIs s types start l d) (levels : l ≤ 32) (p : ℕ) (h : p ≡ 0 → ⊥) (inside : start ≤ p) where
   -- the first side
@@ -98,12 +98,12 @@ module _ (s types : List ℕ) (start l d : ℕ) (O : OperandIs s types start l d
       let i₁ = i.1 in
       let j₁ = j.1 in
       let S = shape_is s types 32 l l p m m q x y τ υ levels (read_stands s (length types) (start + 1024) l d σ p x m e) (read_stands s (length types) (start + 1024) l d ρ m y q f) (omega arith) (omega arith) a c in
-      rw (one_hot (kind_of τ) (kind_of υ)) (two_tests τ υ (shape 32 s types p m).same p (pick (eqb bad 0) below bad) S.0) ∙ turned (eq_ty τ υ) p (pick (eqb bad 0) below bad)
+      rw (one_hot (kind_of τ) (kind_of υ)) (two_tests τ υ (is_some (shape 32 s types p m)) p (pick (eqb bad 0) below bad) (ap is_some S ∙ ends_there (eq_ty τ υ) _)) ∙ turned (eq_ty τ υ) p (pick (eqb bad 0) below bad)
 
-  abbrev sides_here : ℕ → ℕ → ℕ → ℕ → Answer
+  abbrev sides_here : ℕ → ℕ → ℕ → ℕ → Result Got Refusal
   sides_here n want at bad = list_with (head_at s types (end_of (length s) start) d l) (below_at l s types (end_of (length s) start) d) s types 0 p n want at bad
 
-  abbrev marks : List Kind → Trees → ℕ → Answer
+  abbrev marks : List Kind → Trees → ℕ → Result Got Refusal
   marks ks xs q = gives q (marked (may_all (among ks) as_first (head_types (types_of types) xs)) p 0 (first_wrong_in (types_of types) p xs))
 
   -- both sides read, with the types τ and υ

@@ -1,6 +1,7 @@
 -- A whole formula: the reader's answer is document 01's.
+use Rattle.std.specs.Prelude.{Err}
 use Prim.Native.Nat.{ℕ, ◌+◌, ◌-◌}
-use mathlib.Core.Path.{◌≡◌, refl, ap, ◌∙◌, subst}
+use mathlib.Core.Path.{◌≡◌, refl, ap, sym, ◌∙◌, subst}
 use mathlib.Core.Bool.{true, false}
 use mathlib.Core.Option.{Option, some, none}
 use mathlib.Core.List.{List}
@@ -13,15 +14,13 @@ use Rattle.formula.specs.NodeTable.{sort_of_ty}
 use Rattle.formula.specs.Tree.{Tree}
 use Rattle.formula.specs.Typing.{head_type, first_wrong}
 use Rattle.formula.specs.Mirror.PackedTable.{bit, sort_mask, root_row, field, first, rest}
-use Rattle.reader.specs.Mirror.Walk.{below_at, list_with, unlike, bad_after, read_from, end_of, reading_of, whole_at, read_whole}
+use Rattle.reader.specs.Mirror.Walk.{below_at, list_with, unlike, bad_after, read_from, end_of, reading_of, whole_at}
 use Rattle.reader.specs.Mirror.Node.{head_at}
 use Rattle.formula.specs.Reading.{Parsed, got, not_got, formula_at}
 use Rattle.formula.specs.Formula.{typed?, asked8, tree_at, end_or_refusal, read_formula}
 use Rattle.formula.specs.declared.Sort.{Sort}
 use Rattle.formula.specs.declared.Sort.TheVariants as sorts
 use Rattle.refusal.specs.declared.Cause.TheVariants as cause
-use Rattle.formula.specs.declared.Reading.{Reading}
-use Rattle.formula.specs.declared.Reading.TheVariants as reading
 use Rattle.formula.proofs.Wants.{root_kinds, root_wants}
 use Rattle.reader.proofs.Goings.{answered, gives, mark_of}
 use Rattle.reader.proofs.ListIs.{type_bit, OperandIs}
@@ -51,7 +50,7 @@ marked_reading : (x : Tree) (o : Option ℕ) (q : ℕ) → reading_of (gives q (
 marked_reading x none q = refl
 marked_reading x (some p) q =
     let e : p + 1 - 1 ≡ p = omega arith in
-    simp (ne_eqb (p + 1) 0 (λ z. omega (arith, z))) (ap (λ (v : ℕ). reading.Refused (record { cause = cause.Type; at = v })) e)
+    simp (ne_eqb (p + 1) 0 (λ z. omega (arith, z))) (ap (λ (v : ℕ). Err (record { cause = cause.Type; at = v })) e)
 
 module _ (s types : List ℕ) (σ : Sort) (start : ℕ) where
   abbrev end : ℕ
@@ -79,9 +78,9 @@ module _ (s types : List ℕ) (σ : Sort) (start : ℕ) where
       (λ x q o e t. ap (gives q) (root_mark x q o.ty (mark_of (first_wrong (types_of types) start x)) e t)))
 
   -- THE BRIDGE
-  pub whole_is : (z : Reading) → z ≡ read_whole s types σ start → z ≡ read_formula s types σ start
-  unfolding read_whole read_formula tree_at
-  whole_is z e = e ∙ ap reading_of whole_read ∙ go (formula_at s (length types) (start + 1024) 32 0 σ start)
+  pub whole_is : read_formula s types σ start ≡ reading_of (read_from s types end (whole_at σ start))
+  unfolding read_formula tree_at
+  whole_is = sym (ap reading_of whole_read ∙ go (formula_at s (length types) (start + 1024) 32 0 σ start))
     where
       go : (y : Parsed Tree) → reading_of (answered y (λ x q. gives q (mark_of (first_wrong (types_of types) start x)))) ≡ end_or_refusal (asked8 (types_of types) start y)
       go (got x q) = marked_reading x (first_wrong (types_of types) start x) q

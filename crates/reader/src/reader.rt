@@ -1,257 +1,160 @@
 // The reader: a list of operands at a time, the levels left falling.
-ghost use Rattle.std.specs.Prelude.{◌≡◌, length, ℕ, ◌+◌, ◌*◌, ◌^◌, ◌<◌, ◌≤◌};
-ghost use Rattle.formula.specs.Mirror.PackedTable.{table};
-ghost use Rattle.reader.specs.Mirror.Walk.{next_want, unlike, end_of, Going, judged, first_mark, next_operand, operands_of, keeping, read_from, Stood, Turn, whole_at};
+ghost use Rattle.std.specs.Prelude.{◌≡◌, length, ℕ, ◌≤◌};
+ghost use Rattle.reader.specs.Mirror.Walk.{end_of};
 ghost use Rattle.formula.specs.Formula.{read_formula};
 
-use super::node::{is_refused, look, name_at, refusal_at};
+use super::node::Seen;
 use super::shape::same_shape;
-use super::{Answer, Got, Seen, Walk};
-use formula::table::{binds_of, count_of, field_of, node_table, root_row, wide};
-use formula::{Reading, Sort};
+use super::walk::{Walk, first_mark};
+use formula::table::{PAIR, ident_type};
+use formula::{LEVELS, LONGEST, Sort};
 use refusal::{Cause, Refusal};
 
-// What the next operand may be.
-fn next_want(others: usize, ty: usize) -> usize
-    ensures { result ≡ next_want others ty }
-{
-    if others == 0 { ty } else { others }
+// The code of an identifier.
+const IDENTIFIER: u8 = 0x20;
+
+// Operands read: where they end, and the mark (as in a Walk) of the first wrong node among them and their parent, or 0.
+#[derive(Clone, Copy)]
+pub struct Got {
+    pub next: usize,
+    pub bad: usize,
 }
 
-// Whether the second side of =, at p and of the type ty, is no pair of the shape of the first.
-fn is_unlike(
-    s: &[u8],
-    rows: &[u64; 51],
-    types: &[u8],
-    others: usize,
-    left: usize,
-    ty: usize,
-    first: usize,
-    p: usize,
-) -> bool
-    requires { rows.now ≡ table }
-    ensures { result ≡ unlike s.now types.now others left ty first p }
-{
-    if others != 0 {
-        return false;
-    }
-    if left != 1 {
-        return false;
-    }
-    if ty != 64 {
-        return false;
-    }
-    let e = same_shape(s, rows, types, first, p, 32);
-    if e.same { false } else { true }
+// What is read: the bytes, one for each identifier's type, and the end that the formula's bytes are before.
+// The functions beside it take the bytes and the types: tried as methods of this, the reader is slower, by 7 to 15 percent on
+// three shapes of `bench`.
+#[derive(Clone, Copy)]
+struct Reader<'a> {
+    pub bytes: &'a [u8],
+    pub types: &'a [u8],
+    pub end: usize,
+    ghost inside: { end ≤ length bytes.now },
 }
 
-// The mark of the first wrong node so far, the next operand, of the type ty, judged.
-fn judge(s: &[u8], rows: &[u64; 51], types: &[u8], w: Walk, ty: usize) -> usize
-    requires { rows.now ≡ table }
-    ensures { result ≡ judged s.now types.now w ty }
-{
-    let fit = w.want & ty;
-    if fit == 0 {
-        return w.parent;
-    }
-    if is_unlike(s, rows, types, w.others, w.left, ty, w.parent, w.at) {
-        return w.parent;
-    }
-    w.bad
-}
+impl<'a> Reader<'a> {
+    ghost use Rattle.std.specs.Prelude.{◌≡◌, length, ℕ, ◌<◌, ◌≤◌};
+    ghost use Rattle.reader.specs.Mirror.Node.{name_at};
+    ghost use Rattle.reader.specs.Mirror.Walk.{unlike, Going, judged, read_from, Stood, Turn};
 
-// The first of two marks.
-fn first_mark(a: usize, b: usize) -> usize
-    ensures { result ≡ first_mark a b }
-{
-    if a == 0 { b } else { a }
-}
-
-// After the next operand, of the type ty: the one at `next`.
-fn next_operand(w: Walk, ty: usize, next: usize, bad: usize) -> Walk
-    requires { 0 < w.left }
-    ensures { result ≡ next_operand w ty next bad }
-{
-    Walk {
-        at: next,
-        left: w.left - 1,
-        want: next_want(w.others, ty),
-        others: w.others,
-        parent: w.parent,
-        d: w.d,
-        level: w.level,
-        bad: bad,
-        kept: w.kept,
-    }
-}
-
-// The operands of the next operand, which has the row x and the byte n after its code.
-fn operands_of(w: Walk, x: u64, n: u8, kept: usize) -> Walk
-    requires going { Going w }
-    requires at_bound { w.at < 2 ^ 63 }
-    ensures value { result ≡ operands_of w x n kept }
-    ensures left_bound { result.left < 256 }
-    ensures d_bound { result.d ≤ w.d + 255 }
-{
-    let b = binds_of(x, n);
-    Walk {
-        at: w.at + field_of(x, 0) + 1,
-        left: count_of(x, n),
-        want: field_of(x, 32),
-        others: field_of(x, 40),
-        parent: w.at + 1,
-        d: w.d + wide(b),
-        level: w.level - 1,
-        bad: 0,
-        kept: kept,
-    }
-}
-
-// The same, of an operand that stands and is judged.
-fn below(s: &[u8], rows: &[u64; 51], types: &[u8], end: usize, w: Walk, o: Seen) -> Walk
-    requires rows_value { rows.now ≡ table }
-    requires stood { Stood s.now types.now end w o }
-    ensures { Turn s.now types.now end w o.ty result }
-{
-    let kept = judge(s, rows, types, w, o.ty);
-    operands_of(w, o.row, o.byte, kept)
-}
-
-// The same operands, a mark found before them kept.
-fn keeping(kept: usize, w: Walk) -> Walk
-    ensures { result ≡ keeping kept w }
-{
-    Walk {
-        at: w.at,
-        left: w.left,
-        want: w.want,
-        others: w.others,
-        parent: w.parent,
-        d: w.d,
-        level: w.level,
-        bad: w.bad,
-        kept: first_mark(kept, w.kept),
-    }
-}
-
-// Reads the operands that are left. The operands of the last one are read in the same loop, those of another by a call.
-#[cycle(read_below_read_ops)]
-fn read_ops(s: &[u8], rows: &[u64; 51], types: &[u8], end: usize, from: Walk) -> Answer
-    requires rows_value { rows.now ≡ table }
-    requires end_in_bounds { end ≤ length s.now }
-    requires going { Going from }
-    ensures { result ≡ read_from s.now types.now end from }
-{
-    let mut w = from;
-    while w.left != 0 {
-        if end <= w.at {
-            return Answer::Refused(refusal_at(s, rows, types, w));
+    // The kind of the identifier at `at`, where one stands that may stand here. Most operands are identifiers, and this reads
+    // one without its row.
+    #[tactic(auto, unfolding(crate::specs::Mirror::Node::name_at, formula::specs::Mirror::Bytes::byte_at))]
+    fn name_at(&self, want: usize, at: usize) -> Option<usize>
+        requires { at < self.now.end }
+        ensures { result ≡ name_at self.now.bytes.now self.now.types.now self.now.end want at }
+    {
+        let s = self.bytes;
+        // Tried as a slice pattern: slower, by 13 to 25 percent on two shapes of `bench`.
+        if self.end <= at + 1 || s[at] != IDENTIFIER {
+            return None;
         }
-        let name = name_at(s, types, end, w.want, w.at);
-        if name != 0 {
-            w = next_operand(w, name, w.at + 2, w.bad);
-            continue;
+        let ty = ident_type(self.types, usize::from(s[at + 1]));
+        if want & ty == 0 { None } else { Some(ty) }
+    }
+
+    // Whether the next operand, of the type ty, is the second side of = and no pair of the shape of the first.
+    #[tactic(auto, unfolding(crate::specs::Mirror::Walk::unlike))]
+    fn is_unlike(&self, w: Walk, ty: usize) -> bool
+        ensures { result ≡ unlike self.now.bytes.now self.now.types.now w.others w.left ty w.parent w.at }
+    {
+        w.others == 0
+            && w.left == 1
+            && ty == PAIR
+            && same_shape(self.bytes, self.types, w.parent, w.at, LEVELS).is_none()
+    }
+
+    // The mark of the first wrong node so far, the next operand, of the type ty, judged.
+    #[tactic(auto, unfolding(crate::specs::Mirror::Walk::judged))]
+    fn judge(&self, w: Walk, ty: usize) -> usize
+        ensures { result ≡ judged self.now.bytes.now self.now.types.now w ty }
+    {
+        if w.want & ty == 0 || self.is_unlike(w, ty) {
+            return w.parent;
         }
-        let o = look(s, rows, types, w.at);
-        if is_refused(types.len(), end, w, o) {
-            return Answer::Refused(refusal_at(s, rows, types, w));
-        }
-        let v = below(s, rows, types, end, w, o);
-        if v.left == 0 {
-            w = next_operand(w, o.ty, v.at, v.kept);
-            continue;
-        }
-        if v.level == 0 {
-            return Answer::Refused(refusal_at(s, rows, types, v));
-        }
-        if w.left == 1 {
-            w = keeping(w.kept, v);
-            continue;
-        }
-        let a = read_below(s, rows, types, end, v);
-        match a {
-            Answer::Refused(r) => {
-                return Answer::Refused(r);
+        w.bad
+    }
+
+    // The operands of the next operand, which stands and is judged.
+    fn below(&self, w: Walk, o: Seen) -> Walk
+        requires { Stood self.now.bytes.now self.now.types.now self.now.end w o }
+        ensures { Turn self.now.bytes.now self.now.types.now self.now.end w o.ty result }
+    {
+        w.below(o, self.judge(w, o.ty))
+    }
+
+    // Reads the operands that are left. The operands of the last one are read in the same loop, those of another by a call.
+    #[cycle(read_below_read_ops)]
+    #[tactic(auto, using(crate::proofs::WalkLaws::turns))]
+    fn read_ops(&self, from: Walk) -> Result<Got, Refusal>
+        requires { Going from }
+        ensures { result ≡ read_from self.now.bytes.now self.now.types.now self.now.end from }
+    {
+        let mut w = from;
+        while w.left != 0 {
+            if self.end <= w.at {
+                return Err(w.refusal(self.bytes, self.types));
             }
-            Answer::Read(g) => {
-                w = next_operand(w, o.ty, g.next, g.bad);
+            if let Some(name) = self.name_at(w.want, w.at) {
+                w = w.next(name, w.at + 2, w.bad);
+                continue;
             }
+            let o = Seen::at(self.bytes, self.types, w.at);
+            if w.refuses(self.types.len(), self.end, o) {
+                return Err(w.refusal(self.bytes, self.types));
+            }
+            let v = self.below(w, o);
+            if v.left == 0 {
+                w = w.next(o.ty, v.at, v.kept);
+                continue;
+            }
+            if v.level == 0 {
+                return Err(v.refusal(self.bytes, self.types));
+            }
+            if w.left == 1 {
+                w = v.keeping(w.kept);
+                continue;
+            }
+            let g = self.read_below(v)?;
+            w = w.next(o.ty, g.next, g.bad);
         }
+        Ok(Got {
+            next: w.at,
+            bad: first_mark(w.kept, w.bad),
+        })
     }
-    Answer::Read(Got {
-        next: w.at,
-        bad: first_mark(w.kept, w.bad),
-    })
-}
 
-// A call of its own, so that the loop of the caller keeps the slices in registers.
-#[cycle(read_below_read_ops)]
-fn read_below(s: &[u8], rows: &[u64; 51], types: &[u8], end: usize, w: Walk) -> Answer
-    requires rows_value { rows.now ≡ table }
-    requires end_in_bounds { end ≤ length s.now }
-    requires going { Going w }
-    ensures { result ≡ read_from s.now types.now end w }
-{
-    read_ops(s, rows, types, end, w)
+    // A call of its own: tried with a loop that calls its own function, the reader is slower, by 8 to 20 percent.
+    #[cycle(read_below_read_ops)]
+    fn read_below(&self, w: Walk) -> Result<Got, Refusal>
+        requires { Going w }
+        ensures { result ≡ read_from self.now.bytes.now self.now.types.now self.now.end w }
+    {
+        self.read_ops(w)
+    }
 }
 
 // The formula's bytes are before this.
+#[tactic(auto, unfolding(crate::specs::Mirror::Walk::end_of))]
 fn end_of(len: usize, start: usize) -> usize
     ensures value { result ≡ end_of len start }
     ensures upper_bound { result ≤ len }
 {
-    if start < len {
-        if 1024 < len - start {
-            return start + 1024;
-        }
-    }
-    len
-}
-
-// A whole formula as one operand, of a parent that it always suits.
-fn whole(sort: Sort, start: usize) -> Walk
-    ensures value { result ≡ whole_at sort start }
-    ensures going { Going result }
-{
-    let root = root_row(sort);
-    Walk {
-        at: start,
-        left: 1,
-        want: field_of(root, 32),
-        others: field_of(root, 40),
-        parent: 1,
-        d: 0,
-        level: 32,
-        bad: 0,
-        kept: 0,
-    }
-}
-
-// Reads the formula of this sort that starts at `start`, with a table that is lent.
-pub fn read_with(s: &[u8], rows: &[u64; 51], types: &[u8], sort: Sort, start: usize) -> Reading
-    requires { rows.now ≡ table }
-    ensures { result ≡ read_formula s.now types.now sort start }
-{
-    let end = end_of(s.len(), start);
-    let a = read_ops(s, rows, types, end, whole(sort, start));
-    match a {
-        Answer::Refused(r) => Reading::Refused(r),
-        Answer::Read(g) => {
-            if g.bad == 0 {
-                return Reading::Read(g.next);
-            }
-            Reading::Refused(Refusal {
-                cause: Cause::Type,
-                at: g.bad - 1,
-            })
-        }
-    }
+    len.min(start.saturating_add(LONGEST))
 }
 
 // Reads the formula of this sort that starts at `start`; `types` has a byte for each identifier.
-pub fn read_formula(s: &[u8], types: &[u8], sort: Sort, start: usize) -> Reading
+#[tactic(auto, using(crate::proofs::WholeIs::whole_is))]
+pub fn read_formula(s: &[u8], types: &[u8], sort: Sort, start: usize) -> Result<usize, Refusal>
     ensures { result ≡ read_formula s.now types.now sort start }
 {
-    let rows = node_table();
-    read_with(s, &rows, types, sort, start)
+    let reader = Reader {
+        bytes: s,
+        types,
+        end: end_of(s.len(), start),
+    };
+    let g = reader.read_ops(Walk::whole(sort, start))?;
+    if g.bad == 0 {
+        return Ok(g.next);
+    }
+    Err(Cause::Type.at(g.bad - 1))
 }

@@ -1,67 +1,48 @@
 // Whether two expressions have one type.
-ghost use Rattle.std.specs.Prelude.{◌≡◌, ℕ, ◌+◌, ◌<◌, ◌≤◌};
-ghost use Rattle.formula.specs.Mirror.PackedTable.{table};
-ghost use Rattle.reader.specs.Mirror.Shape.{is_pair, are_pairs, leaf_ends, shape};
+ghost use Rattle.std.specs.Prelude.{◌≡◌};
+ghost use Rattle.reader.specs.Mirror.Shape.{is_pair, leaf_ends, shape};
 
-use super::Ends;
-use formula::bytes::byte_at;
+use formula::bytes::small_at;
 use formula::skip::{skip, type_at};
-use formula::table::{field_of, row_at};
+use formula::table::{PAIR, Row};
+
+// Where two expressions of one type end.
+#[derive(Clone, Copy)]
+pub struct Ends {
+    pub a: usize,
+    pub b: usize,
+}
 
 // Only ↦ makes pairs.
-fn is_pair(s: &[u8], rows: &[u64; 51], i: usize) -> bool
-    requires { rows.now ≡ table }
+#[tactic(auto, unfolding(crate::specs::Mirror::Shape::is_pair, formula::specs::Mirror::Bytes::byte_at))]
+fn is_pair(s: &[u8], i: usize) -> bool
     ensures { result ≡ is_pair s.now i }
 {
-    let x = row_at(rows, byte_at(s, i));
-    field_of(x, 48) == 64
+    Row::of(small_at(s, i)).kind() == PAIR
 }
 
-fn are_pairs(s: &[u8], rows: &[u64; 51], a: usize, b: usize) -> bool
-    requires { rows.now ≡ table }
-    ensures { result ≡ are_pairs s.now a b }
-{
-    if is_pair(s, rows, a) {
-        return is_pair(s, rows, b);
-    }
-    false
-}
-
-fn leaf_ends(s: &[u8], rows: &[u64; 51], types: &[u8], a: usize, b: usize) -> Ends
-    requires { rows.now ≡ table }
+// The same of two that are not both pairs.
+#[tactic(auto, unfolding(crate::specs::Mirror::Shape::leaf_ends))]
+fn leaf_ends(s: &[u8], types: &[u8], a: usize, b: usize) -> Option<Ends>
     ensures { result ≡ leaf_ends s.now types.now a b }
 {
-    let x = type_at(s, rows, types, a);
-    let y = type_at(s, rows, types, b);
-    Ends {
-        a: skip(s, rows, a),
-        b: skip(s, rows, b),
-        same: x == y,
+    if type_at(s, types, a) != type_at(s, types, b) {
+        return None;
     }
+    Some(Ends {
+        a: skip(s, a),
+        b: skip(s, b),
+    })
 }
 
-// Whether the types of the expressions at a and b are one, and where these end if so.
-pub fn same_shape(
-    s: &[u8],
-    rows: &[u64; 51],
-    types: &[u8],
-    a: usize,
-    b: usize,
-    level: usize,
-) -> Ends
-    requires { rows.now ≡ table }
+// Where the expressions at a and b end, if their types are one.
+#[tactic(auto, using(crate::proofs::ShapeLaws::shapes))]
+pub fn same_shape(s: &[u8], types: &[u8], a: usize, b: usize, level: usize) -> Option<Ends>
     ensures { result ≡ shape level s.now types.now a b }
 {
-    if level == 0 {
-        return leaf_ends(s, rows, types, a, b);
+    if level == 0 || !is_pair(s, a) || !is_pair(s, b) {
+        return leaf_ends(s, types, a, b);
     }
-    let len = s.len();
-    if are_pairs(s, rows, a, b) {
-        let l = same_shape(s, rows, types, a + 1, b + 1, level - 1);
-        if l.same {
-            return same_shape(s, rows, types, l.a, l.b, level - 1);
-        }
-        return l;
-    }
-    leaf_ends(s, rows, types, a, b)
+    let left = same_shape(s, types, a + 1, b + 1, level - 1)?;
+    same_shape(s, types, left.a, left.b, level - 1)
 }

@@ -11,13 +11,14 @@ use Rattle.formula.specs.Reading.{Parsed}
 use Rattle.formula.specs.Tree.{encode}
 use Rattle.formula.proofs.Places.{AllBytes, one_more}
 use Rattle.formula.proofs.Choices.{none_some}
+use Rattle.formula.proofs.Back.{OfGot, on_got_law, unless}
 use Rattle.desk.specs.Sequent.{Flag, plain, hidden, selected, Hypothesis, present, Different, hypothesis}
 use Rattle.desk.specs.File.{flag_byte, hypotheses_bytes}
+use Rattle.desk.proofs.Apart.{one_apart, bytes_append}
 use Rattle.sequent.specs.Accepted.{TypeBytes, Predicates}
 use Rattle.sequent.specs.ReadFile.{flag_of, predicate_at, types_at, on_flag, hypotheses_at}
-use Rattle.desk.proofs.Apart.{one_apart, bytes_append}
 use Rattle.sequent.proofs.Predicates.{one_predicate}
-use Rattle.sequent.proofs.SeenIs.{OfGot, on_seen, so_seen, unless, PredicateStands, predicate_stood}
+use Rattle.sequent.proofs.SeenIs.{so_seen, PredicateStands, predicate_stood}
 
 flag_back : (b : ℕ) (f : Flag) → flag_of b ≡ some f → flag_byte f ≡ b
 flag_back zero f e = ap flag_byte (let z : f ≡ plain = cc in z)
@@ -39,7 +40,7 @@ module _ (s : List ℕ) where
   types_stood (suc n) p =
       unless (TypesStood (suc n) p) (leb (length s) p) _ _ _ λ h.
       unless (TypesStood (suc n) p) (ltb 2 (get_or s p 0)) _ _ _ λ k.
-      on_seen (TypesStood n (p + 1)) (TypesStood (suc n) p) (types_at s n (p + 1)) _ (types_stood n (p + 1)) λ ts q T.
+      on_got_law (TypesStood n (p + 1)) (TypesStood (suc n) p) (types_at s n (p + 1)) _ (types_stood n (p + 1)) λ ts q T.
       let u = T.ends in
       record {
         so_many = ap suc T.so_many;
@@ -89,7 +90,7 @@ module _ (s : List ℕ) where
         let R = HypothesesStood (suc n) earlier p in
         unless R (leb (length s) p) _ _ _ λ i.
         on_flag_law R (flag_of (get_or s p 0)) p _ λ f b.
-        on_seen (PredicateStands s types (p + 1)) R (predicate_at s types (p + 1)) _ (predicate_stood s types (p + 1) B) λ x m X.
+        on_got_law (PredicateStands s types (p + 1)) R (predicate_at s types (p + 1)) _ (predicate_stood s types (p + 1) B) λ x m X.
         unless R (present earlier x) _ _ _ λ a.
         let h : Hypothesis = hypothesis f x in
         let e = one_more s p (leb-false _ _ i) ∙ rw (X.stands, ← flag_back (get_or s p 0) f b) refl in

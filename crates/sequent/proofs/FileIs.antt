@@ -11,12 +11,13 @@ use Rattle.formula.specs.Reading.{Parsed, got}
 use Rattle.formula.specs.Tree.{Tree, encode}
 use Rattle.formula.proofs.Places.{AllBytes, one_more, behind}
 use Rattle.formula.proofs.Choices.{and_left, and_right}
+use Rattle.formula.proofs.Back.{OfGot, on_got_law, unless}
 use Rattle.desk.specs.Sequent.{Hypothesis, Sequent, sequent_of}
 use Rattle.desk.specs.File.{header, hypotheses_bytes, encode_sequent}
+use Rattle.desk.proofs.Apart.{or_false}
 use Rattle.sequent.specs.Accepted.{AcceptedSequent}
 use Rattle.sequent.specs.ReadFile.{header_at, to_end, predicate_at, types_at, hypotheses_at, bad_mark, bad_version, bad_numbers, body_at, read_sequent}
-use Rattle.desk.proofs.Apart.{or_false}
-use Rattle.sequent.proofs.SeenIs.{OfGot, to_end_law, on_seen, unless, of_seen, PredicateStands, reads_predicate, predicate_stood}
+use Rattle.sequent.proofs.SeenIs.{to_end_law, of_seen, PredicateStands, reads_predicate, predicate_stood}
 use Rattle.sequent.proofs.FileRead.{reads_types, reads_hypotheses}
 use Rattle.sequent.proofs.FileBack.{TypesStood, types_stood, HypothesesStood, hypotheses_stood}
 
@@ -145,10 +146,10 @@ module _ (s : List ℕ) where
   file_stood : AllBytes s → OfGot FileStood (read_sequent s)
   unfolding read_sequent body_at
   file_stood B =
-      on_seen HeaderPassed FileStood (header_at s) _ header_passed λ fine r P.
-      on_seen (TypesStood s (get_or s 5 0) 8) FileStood (types_at s (get_or s 5 0) 8) _ (types_stood s (get_or s 5 0) 8) λ ts p T.
-      on_seen (HypothesesStood s ts (get_or s 6 0) [] p) FileStood (hypotheses_at s ts (get_or s 6 0) [] p) _ (hypotheses_stood s ts B (get_or s 6 0) [] p tt tt) λ hs q H.
-      on_seen (LastStands ts q) FileStood (to_end s (predicate_at s ts q)) _ (to_end_law s (PredicateStands s ts q) (LastStands ts q) (predicate_at s ts q) (predicate_stood s ts q B) (λ g e G a. (G, a))) λ g e L.
+      on_got_law HeaderPassed FileStood (header_at s) _ header_passed λ fine r P.
+      on_got_law (TypesStood s (get_or s 5 0) 8) FileStood (types_at s (get_or s 5 0) 8) _ (types_stood s (get_or s 5 0) 8) λ ts p T.
+      on_got_law (HypothesesStood s ts (get_or s 6 0) [] p) FileStood (hypotheses_at s ts (get_or s 6 0) [] p) _ (hypotheses_stood s ts B (get_or s 6 0) [] p tt tt) λ hs q H.
+      on_got_law (LastStands ts q) FileStood (to_end s (predicate_at s ts q)) _ (to_end_law s (PredicateStands s ts q) (LastStands ts q) (predicate_at s ts q) (predicate_stood s ts q B) (λ g e G a. (G, a))) λ g e L.
       let i = or_false (ltb (length s) 8) _ P.within in
       whole ts hs g p q e (ltb-false _ _ i.1) (header_stood (ltb-false _ _ i.0) P.mark P.version P.numbers) T H L.0 L.1
 

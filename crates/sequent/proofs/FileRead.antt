@@ -11,9 +11,9 @@ use Rattle.formula.specs.Tree.{encode}
 use Rattle.formula.proofs.Places.{head_is, behind, reaches}
 use Rattle.desk.specs.Sequent.{Flag, plain, hidden, selected, Hypothesis, Different}
 use Rattle.desk.specs.File.{flag_byte, hypotheses_bytes}
+use Rattle.desk.proofs.Apart.{apart_before}
 use Rattle.sequent.specs.Accepted.{TypeBytes, Predicates}
 use Rattle.sequent.specs.ReadFile.{flag_of, types_at, hypotheses_at}
-use Rattle.desk.proofs.Apart.{apart_before}
 use Rattle.sequent.proofs.SeenIs.{reads_predicate}
 
 flag_there : (f : Flag) → flag_of (flag_byte f) ≡ some f

@@ -2,14 +2,13 @@
 --   Predicates      hypotheses that are predicates, one by one
 --   SeenIs          what holds of what was read; one predicate
 --   FileRead, FileBack, FileIs   encode, then read; read, then encode
---   FileLaws        the cases of the reader's code; HypothesesLaws: one more hypothesis; OpenLaws: the whole file
+--   HypothesesLaws  one more hypothesis; OpenLaws: the whole file
 --   CountLaws       the ones of the masks are the counts that reading answers
 pub mod Predicates
 pub mod SeenIs
 pub mod FileRead
 pub mod FileBack
 pub mod FileIs
-pub mod FileLaws
-pub mod CountLaws
 pub mod HypothesesLaws
 pub mod OpenLaws
+pub mod CountLaws

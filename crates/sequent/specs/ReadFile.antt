@@ -1,13 +1,13 @@
 -- Document 01: reading a sequent file, left to right; "The header is asked 1 (length), 2, 3, 4 in that order".
 use Rattle.std.specs.Prelude.{ℕ, zero, suc, ◌+◌, List, [], ◌∷◌, ◌++◌, Bool, true, not, ◌&&◌, ◌||◌, length, get_or, ltb, leb, eqb}
 use Rattle.std.proofs.Math.Option.{Option, some, none}
+use Rattle.refusal.specs.declared.Cause.TheVariants as cause
 use Rattle.formula.specs.Pick.{pick}
 use Rattle.formula.specs.Tree.{Tree}
 use Rattle.formula.specs.Reading.{Parsed, got, not_got, on_got}
 use Rattle.formula.specs.Formula.{tree_at}
 use Rattle.formula.specs.declared.Sort.TheVariants as sort
 use Rattle.desk.specs.Sequent.{Flag, plain, hidden, selected, Hypothesis, Sequent, present, hypothesis, sequent_of}
-use Rattle.refusal.specs.declared.Cause.TheVariants as cause
 
 -- the predicate at a place: 1, 7, 9, then 8
 unfoldable pub predicate_at : List ℕ → List ℕ → ℕ → Parsed Tree

@@ -3,85 +3,70 @@
 
 pub mod file;
 
-ghost use Rattle.std.specs.Prelude.{◌≡◌};
-ghost use Rattle.formula.specs.Mirror.PackedTable.{table};
+ghost use Rattle.std.specs.Prelude.{◌≡◌, take, drop};
 ghost use Rattle.sequent.specs.Counts.{read_outcome};
+ghost use Rattle.sequent.specs.Mirror.Opened.{Open};
 
-use desk::View;
-use desk::mask::visible_mask;
+use desk::{Hypotheses, View};
 use file::open;
-use formula::table::node_table;
-use refusal::{Refusal, Said};
+use refusal::Said;
 
 // How many hypotheses are hidden, selected and visible.
-#[derive(Drop)]
+#[derive(Clone, Copy, Debug, PartialEq, Eq)]
 pub struct Counts {
     pub hidden: usize,
     pub selected: usize,
     pub visible: usize,
 }
 
+// A sequent opened in place: its file, where each hypothesis starts there, and where the last one ends. Its 65 places are lent
+// and not copied by chance, so it is not Copy.
 #[derive(Drop)]
-pub enum Counted {
-    Counts(Counts),
-    Refused(Said),
+pub struct Opened<'a> {
+    pub bytes: &'a [u8],
+    pub places: [usize; 65],
+    pub view: View,
+    pub ghost is_open: { ∥ Open bytes.now places view ∥₁ },
 }
 
-// A sequent opened in place.
-#[derive(Drop)]
-pub enum Opened {
-    Read(View),
-    Refused(Said),
-}
+impl<'a> Opened<'a> {
+    // The type bytes of the identifiers.
+    pub fn types(&self) -> &'a [u8]
+        ensures { result.now ≡ take self.now.view.identifiers (drop 8 self.now.bytes.now) }
+    {
+        &self.bytes[8..8 + self.view.identifiers]
+    }
 
-// A part of a file without fault, or its refusal.
-#[derive(Drop)]
-pub enum Checked {
-    Fine,
-    Stopped(Refusal),
-}
+    // The goal: what follows the hypotheses.
+    pub fn goal(&self) -> &'a [u8]
+        ensures { result.now ≡ drop self.now.view.end self.now.bytes.now }
+    {
+        &self.bytes[self.view.end..]
+    }
 
-// A hypothesis' flag byte and its end, or its refusal.
-#[derive(Drop)]
-pub enum HypothesisRead {
-    Read(u8, usize),
-    Stopped(Refusal),
-}
-
-// A sequent as far as it is read, or its refusal.
-#[derive(Drop)]
-pub enum SequentRead {
-    Read(View),
-    Stopped(Refusal),
-}
-
-// The flags of a sequent, counted; with room for its places.
-fn count_flags(s: &[u8], rows: &[u64; 51], places: &mut [usize; 65]) -> Counted
-    requires { rows.now ≡ table }
-    ensures { result ≡ read_outcome s.now }
-{
-    let r = open(s, rows, places);
-    match r {
-        Opened::Refused(z) => Counted::Refused(z),
-        Opened::Read(v) => {
-            let hidden = u64::count_ones(v.hidden) as usize;
-            let selected = u64::count_ones(v.selected) as usize;
-            let shown = visible_mask(v.hypotheses, v.hidden);
-            let visible = u64::count_ones(shown) as usize;
-            Counted::Counts(Counts {
-                hidden: hidden,
-                selected: selected,
-                visible: visible,
-            })
+    // What stands in it, as on a desk.
+    pub fn hypotheses(&self) -> Hypotheses<'_>
+        ensures bytes { result.bytes.now ≡ self.now.bytes.now }
+        ensures places { result.places.now ≡ self.now.places }
+        ensures view { result.view ≡ self.now.view }
+    {
+        Hypotheses {
+            bytes: self.bytes,
+            places: &self.places,
+            view: self.view,
         }
     }
 }
 
 // Reads a sequent file, and answers how many hypotheses are hidden, selected and visible.
-pub fn read(s: &[u8]) -> Counted
+#[tactic(auto, using(crate::proofs::CountLaws::counts))]
+pub fn read(s: &[u8]) -> Result<Counts, Said>
     ensures { result ≡ read_outcome s.now }
 {
-    let rows = node_table();
-    let mut places = [0usize; 65];
-    count_flags(s, &rows, &mut places)
+    let v = open(s)?.view;
+    Ok(Counts {
+        hidden: v.hidden.count_ones() as usize,
+        selected: v.selected.count_ones() as usize,
+        visible: v.visible().count_ones() as usize,
+    })
 }

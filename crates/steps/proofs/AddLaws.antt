@@ -4,31 +4,31 @@ use mathlib.Core.Path.{◌≡◌, refl, sym, ◌∙◌}
 use mathlib.Core.Bool.{Bool, true, false, not}
 use mathlib.Core.List.{List, [], ◌∷◌}
 use native.Mathlib.Omega.{arith}
-use lib.ListN.{length, get_or, length-append}
-use Rattle.formula.specs.Tree.{Tree}
+use lib.Dec.{eqb}
+use lib.ListN.{length, length-append}
+use lib.Pointwise.{pointwise}
+use Rattle.std.specs.Prelude.{Some, None, Result, Ok, Err}
+use Rattle.formula.specs.Tree.{Tree, encode}
+use Rattle.formula.specs.Equal.{same}
+use Rattle.formula.proofs.RangeLaws.{same_bytes_by}
 use Rattle.desk.specs.Sequent.{Flag, plain, Hypothesis, among, hypothesis}
 use Rattle.desk.specs.Hypotheses.{added_flag, add_one, add_all, all_among}
-use Rattle.desk.specs.Mirror.Desk.{Holds, index_of, flag_at, flag_from, AppendIs}
-use Rattle.formula.specs.Equal.{same}
-use Rattle.formula.specs.Equal.{Range}
-use Rattle.formula.specs.Mirror.Ranges.{same_range}
-use Rattle.desk.specs.Mirror.Moves.{Listing, TooMuch}
+use Rattle.desk.specs.Mirror.Bytes.{Stand, OnDesk, find_in, AppendIs}
+use Rattle.desk.specs.Mirror.Desk.{flag_at, flag_from}
+use Rattle.desk.specs.Mirror.Moves.{ListIs, formula_at, TooMuch}
 use Rattle.steps.specs.Mirror.Steps.{flag_by, ChangeAtIs, StepTo, AmongIs, AllAmongIs, added_act, AddOneIs, AddAllIs}
-use Rattle.desk.specs.declared.View.{View}
-use Rattle.steps.specs.declared.Act.{Act}
-use Rattle.desk.specs.declared.Appended.{Appended}
-use Rattle.desk.specs.declared.Appended.TheVariants as appended
-use Rattle.formula.proofs.RangeLaws.{ranges_same}
-use Rattle.desk.proofs.StepsGrow.{adds_grown}
-use Rattle.desk.proofs.Formulas.{each}
+use Rattle.desk.specs.declared.Desk.{Desk}
+use Rattle.desk.specs.declared.NoRoom.{NoRoom}
+use Rattle.desk.specs.declared.hypotheses.Hypotheses.{Hypotheses}
+use Rattle.desk.specs.declared.list.List.{List as Formulas}
+use Rattle.desk.specs.declared.view.View.{View}
+use Rattle.steps.specs.declared.flags.Act.{Act}
 use Rattle.desk.proofs.AtPosition.{found_present, not_present, change_found, change_long}
-use Rattle.steps.proofs.Listings.{Walk, walk_starts, walk_goes, walk_stops, walk_ends}
+use Rattle.desk.proofs.Formulas.{Any, all_any}
+use Rattle.desk.proofs.Found.{find_some, find_no}
 use Rattle.desk.proofs.Room.{too_much_one, too_much_grown}
-use Rattle.desk.specs.Mirror.Bytes.{find_at}
-use Rattle.desk.proofs.Found.{find_is}
-
-abbrev Any : Tree → Type 0
-Any x = Unit {0}
+use Rattle.desk.proofs.StepsGrow.{adds_grown}
+use Rattle.steps.proofs.Listings.{Walk, walk_starts, walk_goes, walk_stops, walk_ends}
 
 -- nothing but the formulas changes from turn to turn
 abbrev Same : Unit {0} → Type 0
@@ -38,30 +38,31 @@ Same u = Unit {0}
 abbrev among_work : Tree → List Tree → Unit {0} → Bool
 among_work y xs u = among y xs
 
-unfoldable pub AmongLeft : List ℕ → List ℕ → ℕ → List ℕ → ℕ → ℕ → ℕ → Type 0
-AmongLeft b starts n x a e i = (xs : List Tree) (y : Tree) → Listing b starts n 0 xs → Range x a e y → Walk (among_work y) xs tt b starts n i Same
+unfoldable pub AmongLeft : Formulas → List ℕ → ℕ → Type 0
+AmongLeft l x i = (xs : List Tree) (y : Tree) → ListIs l xs → x ≡ encode y → Walk (among_work y) xs tt l i Same
 
-module _ (b starts : List ℕ) (n : ℕ) (x : List ℕ) (a e : ℕ) where
-  pub among_start : AmongLeft b starts n x a e 0
+module _ (l : Formulas) (x : List ℕ) where
+  pub among_start : AmongLeft l x 0
   unfolding AmongLeft
-  among_start xs y L R = walk_starts (among_work y) xs tt b starts n Same L tt
+  among_start xs y L x≡ = walk_starts (among_work y) xs tt l Same L tt
 
-  module _ (i : ℕ) (I : AmongLeft b starts n x a e i) where
-    module _ (l : i < n) (r : Bool) (S : r ≡ same_range b (get_or starts i 0) (get_or starts (i + 1) 0) x a e) where
-      here : (y z : Tree) → Range x a e y → Range b (get_or starts i 0) (get_or starts (i + 1) 0) z → (t : Bool) → r ≡ t → same z y ≡ t
-      here y z R Z t q = sym (S ∙ ranges_same b (get_or starts i 0) (get_or starts (i + 1) 0) z Z x a e y R) ∙ q
+  module _ (i : ℕ) (I : AmongLeft l x i) where
+    module _ (m : i < l.count) (z : List ℕ) (z≡ : z ≡ formula_at l i) (r : Bool) (S : r ≡ pointwise eqb z x) where
+      here : (y w : Tree) → x ≡ encode y → formula_at l i ≡ encode w → (t : Bool) → r ≡ t → same w y ≡ t
+      unfolding same
+      here y w x≡ w≡ t q = sym (S ∙ same_bytes_by z x ∙ rw (z≡, w≡, x≡) refl) ∙ q
 
-      pub among_goes : r ≡ false → AmongLeft b starts n x a e (i + 1)
+      pub among_goes : r ≡ false → AmongLeft l x (i + 1)
       unfolding AmongLeft among
-      among_goes t xs y L R = walk_goes (among_work y) xs tt b starts n i Same (I xs y L R) Same l (λ z rest u Z w. (tt, rw (here y z R Z false t) refl, tt))
+      among_goes t xs y L x≡ = walk_goes (among_work y) xs tt l i Same (I xs y L x≡) Same m (λ w rest u W s. (tt, rw (here y w x≡ W false t) refl, tt))
 
-      pub among_found : r ≡ true → AmongIs b starts n x a e true
+      pub among_found : r ≡ true → AmongIs l x true
       unfolding AmongLeft AmongIs among
-      among_found t xs y L R = walk_stops (among_work y) xs tt b starts n i Same (I xs y L R) (λ s. true ≡ s) l (λ z rest u Z w. rw (here y z R Z true t) refl)
+      among_found t xs y L x≡ = walk_stops (among_work y) xs tt l i Same (I xs y L x≡) (λ s. true ≡ s) m (λ w rest u W s. rw (here y w x≡ W true t) refl)
 
-    pub among_ends : n ≤ i → AmongIs b starts n x a e false
+    pub among_ends : l.count ≤ i → AmongIs l x false
     unfolding AmongLeft AmongIs among
-    among_ends l xs y L R = walk_ends (among_work y) xs tt b starts n i Same (I xs y L R) (λ s. false ≡ s) l (λ u w. refl)
+    among_ends m xs y L x≡ = walk_ends (among_work y) xs tt l i Same (I xs y L x≡) (λ s. false ≡ s) m (λ u w. refl)
 
 pub ruleset amongs = (among_start, among_goes, among_found, among_ends)
 
@@ -69,27 +70,27 @@ pub ruleset amongs = (among_start, among_goes, among_found, among_ends)
 abbrev all_work : List Tree → List Tree → Unit {0} → Bool
 all_work xs us u = all_among us xs
 
-unfoldable pub AllAmongLeft : List ℕ → List ℕ → ℕ → List ℕ → List ℕ → ℕ → ℕ → Type 0
-AllAmongLeft u u_starts n a a_starts m i = (us xs : List Tree) → Listing u u_starts n 0 us → Listing a a_starts m 0 xs → Walk (all_work xs) us tt u u_starts n i Same
+unfoldable pub AllAmongLeft : Formulas → Formulas → ℕ → Type 0
+AllAmongLeft u a i = (us xs : List Tree) → ListIs u us → ListIs a xs → Walk (all_work xs) us tt u i Same
 
-module _ (u u_starts : List ℕ) (n : ℕ) (a a_starts : List ℕ) (m : ℕ) where
-  pub all_start : AllAmongLeft u u_starts n a a_starts m 0
+module _ (u a : Formulas) where
+  pub all_start : AllAmongLeft u a 0
   unfolding AllAmongLeft
-  all_start us xs U A = walk_starts (all_work xs) us tt u u_starts n Same U tt
+  all_start us xs U A = walk_starts (all_work xs) us tt u Same U tt
 
-  module _ (i : ℕ) (I : AllAmongLeft u u_starts n a a_starts m i) where
-    module _ (l : i < n) (r : Bool) (S : AmongIs a a_starts m u (get_or u_starts i 0) (get_or u_starts (i + 1) 0) r) where
-      pub all_goes : r ≡ true → AllAmongLeft u u_starts n a a_starts m (i + 1)
+  module _ (i : ℕ) (I : AllAmongLeft u a i) where
+    module _ (m : i < u.count) (z : List ℕ) (z≡ : z ≡ formula_at u i) (r : Bool) (S : AmongIs a z r) where
+      pub all_goes : r ≡ true → AllAmongLeft u a (i + 1)
       unfolding AllAmongLeft AmongIs all_among
-      all_goes t us xs U A = walk_goes (all_work xs) us tt u u_starts n i Same (I us xs U A) Same l (λ z rest v Z w. (tt, rw (sym (S xs z A Z) ∙ t) refl, tt))
+      all_goes t us xs U A = walk_goes (all_work xs) us tt u i Same (I us xs U A) Same m (λ w rest v W s. (tt, rw (sym (S xs w A (z≡ ∙ W)) ∙ t) refl, tt))
 
-      pub all_not : r ≡ false → AllAmongIs u u_starts n a a_starts m false
+      pub all_not : r ≡ false → AllAmongIs u a false
       unfolding AllAmongLeft AllAmongIs AmongIs all_among
-      all_not t us xs U A = walk_stops (all_work xs) us tt u u_starts n i Same (I us xs U A) (λ s. false ≡ s) l (λ z rest v Z w. rw (sym (S xs z A Z) ∙ t) refl)
+      all_not t us xs U A = walk_stops (all_work xs) us tt u i Same (I us xs U A) (λ s. false ≡ s) m (λ w rest v W s. rw (sym (S xs w A (z≡ ∙ W)) ∙ t) refl)
 
-    pub all_ends : n ≤ i → AllAmongIs u u_starts n a a_starts m true
+    pub all_ends : u.count ≤ i → AllAmongIs u a true
     unfolding AllAmongLeft AllAmongIs all_among
-    all_ends l us xs U A = walk_ends (all_work xs) us tt u u_starts n i Same (I us xs U A) (λ s. true ≡ s) l (λ v w. refl)
+    all_ends m us xs U A = walk_ends (all_work xs) us tt u i Same (I us xs U A) (λ s. true ≡ s) m (λ v w. refl)
 
 pub ruleset all_amongs = (all_start, all_goes, all_not, all_ends)
 
@@ -102,63 +103,63 @@ added_new : (b : Bool) → flag_from false (not b) ≡ added_flag b plain
 added_new true = refl
 added_new false = refl
 
-module _ (keep : Bool) (desk places : List ℕ) (v : View) (x : List ℕ) (a e i : ℕ) (F : i ≡ find_at desk places v.hypotheses x a e) where
-  pub add_there : (k : Act) (w : View) → i < v.hypotheses → k ≡ added_act keep → ChangeAtIs v i k w → AddOneIs keep desk places v x a e desk places (appended.Done w)
-  unfolding AddOneIs StepTo ChangeAtIs add_one
-  add_there k w l k≡ C types hs us y H few X g =
-      let q = find_is desk places v.hypotheses x a e i F v types hs y H refl X in
-      let m : index_of hs y < length hs = omega (arith, H.hypotheses_are) in
-      let c = C desk places types hs H (omega (arith, H.hypotheses_are)) few in
-      let d = rw (k≡, added_is keep (flag_at hs i)) at c in
-      rw (found_present y hs m, ← g) (rw (change_found y (added_flag keep) hs m, ← q) d, rw (change_long (added_flag keep) y hs) few)
+module _ (d : Desk) (h : Hypotheses) (x : List ℕ) (keep : Bool) (b≡ : h.bytes.now ≡ d.bytes) (p≡ : h.places.now ≡ d.places) (v≡ : h.view ≡ d.view) where
+  stands : (types : List ℕ) (hs : List Hypothesis) → OnDesk d types hs → Stand h types hs
+  stands types hs H = rw (b≡, p≡, v≡) H
 
-  module _ (l : v.hypotheses ≤ i) (desk' places' : List ℕ) where
-    pub add_new : (r : Appended) → AppendIs desk places v x a e false (not keep) desk' places' r → AddOneIs keep desk places v x a e desk' places' r
+  pub add_there : (i : ℕ) (k : Act) (w : View) → Some i ≡ find_in h x → k ≡ added_act keep → ChangeAtIs d.view i k w → AddOneIs d x keep (record d { view = w }) (Ok tt)
+  unfolding AddOneIs StepTo ChangeAtIs add_one
+  add_there i k w F k≡ C types hs us y H few x≡ g =
+      let f = find_some h x types hs y (stands types hs H) few x≡ i F in
+      let c = C d.bytes d.places types hs H (omega (arith, f.0, f.1)) few in
+      let e = rw (k≡, added_is keep (flag_at hs i)) at c in
+      rw (found_present y hs f.1, ← g) (rw (change_found y (added_flag keep) hs f.1, ← f.0) e, rw (change_long (added_flag keep) y hs) few)
+
+  module _ (F : None ≡ find_in h x) (d' : Desk) where
+    pub add_new : (r : Result Unit NoRoom) → AppendIs d x false (not keep) d' r → AddOneIs d x keep d' r
     unfolding AddOneIs StepTo add_one
-    add_new (appended.Done w) A types hs us y H few X g =
-        let q = find_is desk places v.hypotheses x a e i F v types hs y H refl X in
-        let o = A types hs y H X few in
+    add_new (Ok u) A types hs us y H few x≡ g =
+        let f = find_no h x types hs y (stands types hs H) few x≡ F in
+        let o = A types hs y H x≡ few in
         let k = length-append hs (hypothesis (added_flag keep plain) y ∷ []) in
-        rw (not_present y hs (omega (arith, H.hypotheses_are)), ← g) (rw (added_new keep) at o.0, omega (arith, o.1))
-    add_new appended.NoRoom A types hs us y H few X g =
-        let q = find_is desk places v.hypotheses x a e i F v types hs y H refl X in
-        rw (not_present y hs (omega (arith, H.hypotheses_are)), ← g) (too_much_one types hs desk places v _ y H (A types hs y H X few))
+        rw (not_present y hs f, ← g) (rw (added_new keep) at o.0, omega (arith, o.1))
+    add_new (Err n) A types hs us y H few x≡ g =
+        let f = find_no h x types hs y (stands types hs H) few x≡ F in
+        rw (not_present y hs f, ← g) (too_much_one types hs d.bytes d.places d.view _ y H (A types hs y H x≡ few))
 
 pub ruleset adds = (add_there, add_new)
 
 -- ---- all of them
 -- the desk has these hypotheses
-abbrev On : List ℕ → List ℕ → View → List ℕ → List Hypothesis → Type 0
-On desk places w types hs = Holds desk places w types hs × (length hs ≤ 64)
+abbrev On : Desk → List ℕ → List Hypothesis → Type 0
+On d types hs = OnDesk d types hs × (length hs ≤ 64)
 
-unfoldable pub AddLeft : List ℕ → List ℕ → View → List ℕ → List ℕ → ℕ → List ℕ → List ℕ → ℕ → List ℕ → List ℕ → View → ℕ → Type 0
-AddLeft desk₀ places₀ v a a_starts n u u_starts m desk places w i =
-    (types : List ℕ) (hs : List Hypothesis) (xs us : List Tree) → Holds desk₀ places₀ v types hs → length hs ≤ 64 → Listing a a_starts n 0 xs → Listing u u_starts m 0 us
-    → Walk (add_all us) xs hs a a_starts n i (On desk places w types)
+unfoldable pub AddLeft : Desk → Formulas → Formulas → Desk → ℕ → Type 0
+AddLeft d₀ a u d i =
+    (types : List ℕ) (hs : List Hypothesis) (xs us : List Tree) → OnDesk d₀ types hs → length hs ≤ 64 → ListIs a xs → ListIs u us
+    → Walk (add_all us) xs hs a i (On d types)
 
-module _ (desk₀ places₀ : List ℕ) (v : View) (a a_starts : List ℕ) (n : ℕ) (u u_starts : List ℕ) (m : ℕ) where
-  pub add_start : AddLeft desk₀ places₀ v a a_starts n u u_starts m desk₀ places₀ v 0
+module _ (d₀ : Desk) (a u : Formulas) where
+  pub add_start : AddLeft d₀ a u d₀ 0
   unfolding AddLeft
-  add_start types hs xs us H few A U = walk_starts (add_all us) xs hs a a_starts n (On desk₀ places₀ v types) A (H, few)
+  add_start types hs xs us H few A U = walk_starts (add_all us) xs hs a (On d₀ types) A (H, few)
 
-  module _ (desk places : List ℕ) (w : View) (i : ℕ) (I : AddLeft desk₀ places₀ v a a_starts n u u_starts m desk places w i) where
-    module _ (l : i < n) (keep : Bool) (K : AmongIs u u_starts m a (get_or a_starts i 0) (get_or a_starts (i + 1) 0) keep) (desk' places' : List ℕ) (r : Appended)
-        (O : AddOneIs keep desk places w a (get_or a_starts i 0) (get_or a_starts (i + 1) 0) desk' places' r) where
-      pub add_goes : (z : View) → r ≡ appended.Done z → AddLeft desk₀ places₀ v a a_starts n u u_starts m desk' places' z (i + 1)
+  module _ (d : Desk) (i : ℕ) (I : AddLeft d₀ a u d i) where
+    module _ (m : i < a.count) (x : List ℕ) (x≡ : x ≡ formula_at a i) (keep : Bool) (K : AmongIs u x keep) (d' : Desk) (r : Result Unit NoRoom) (O : AddOneIs d x keep d' r) where
+      pub add_goes : (t : Unit) → r ≡ Ok t → AddLeft d₀ a u d' (i + 1)
       unfolding AddLeft AmongIs AddOneIs StepTo add_all
-      add_goes z t types hs xs us H few A U =
-          walk_goes (add_all us) xs hs a a_starts n i (On desk places w types) (I types hs xs us H few A U) (On desk' places' z types) l
-          (λ x rest now X h. (add_one us x now, refl, rw t at (O types now us x h.0 h.1 X (K us x U X))))
+      add_goes t q types hs xs us H few A U =
+          walk_goes (add_all us) xs hs a i (On d types) (I types hs xs us H few A U) (On d' types) m
+          (λ y rest now X h. (add_one us y now, refl, rw q at (O types now us y h.0 h.1 (x≡ ∙ X) (K us y U (x≡ ∙ X)))))
 
-      pub add_stops : r ≡ appended.NoRoom → AddAllIs desk₀ places₀ v a a_starts n u u_starts m desk' places' appended.NoRoom
+      pub add_stops : (n : NoRoom) → r ≡ Err n → (n' : NoRoom) → AddAllIs d₀ a u d' (Err n')
       unfolding AddLeft AddAllIs AmongIs AddOneIs StepTo add_all
-      add_stops t types hs xs us H few A U =
-          walk_stops (add_all us) xs hs a a_starts n i (On desk places w types) (I types hs xs us H few A U) (TooMuch types) l
-          (λ x rest now X h. too_much_grown types _ Any _ (adds_grown Any us rest (add_one us x now) (each Any rest (λ y. tt))) (rw t at (O types now us x h.0 h.1 X (K us x U X))))
+      add_stops n q n' types hs xs us H few A U =
+          walk_stops (add_all us) xs hs a i (On d types) (I types hs xs us H few A U) (TooMuch types) m
+          (λ y rest now X h. too_much_grown types _ Any _ (adds_grown Any us rest (add_one us y now) (all_any rest)) (rw q at (O types now us y h.0 h.1 (x≡ ∙ X) (K us y U (x≡ ∙ X)))))
 
-    pub add_ends : n ≤ i → AddAllIs desk₀ places₀ v a a_starts n u u_starts m desk places (appended.Done w)
+    pub add_ends : a.count ≤ i → AddAllIs d₀ a u d (Ok tt)
     unfolding AddLeft AddAllIs StepTo add_all
-    add_ends l types hs xs us H few A U =
-        walk_ends (add_all us) xs hs a a_starts n i (On desk places w types) (I types hs xs us H few A U) (On desk places w types) l (λ now h. h)
+    add_ends m types hs xs us H few A U = walk_ends (add_all us) xs hs a i (On d types) (I types hs xs us H few A U) (On d types) m (λ now h. h)
 
 pub ruleset adding = (add_start, add_goes, add_stops, add_ends)

@@ -4,20 +4,23 @@ use mathlib.Core.Path.{◌≡◌, refl, ◌∙◌}
 use mathlib.Core.Bool.{Bool}
 use mathlib.Core.List.{List, [], ◌∷◌}
 use native.Mathlib.Omega.{arith}
-use lib.ListN.{length, get_or}
+use lib.ListN.{length}
+use Rattle.std.specs.Prelude.{Some, None}
 use Rattle.formula.specs.Tree.{Tree}
 use Rattle.desk.specs.Sequent.{Flag, plain, hidden, selected, Hypothesis, is_hidden, is_selected}
 use Rattle.desk.specs.Hypotheses.{change, change_all}
-use Rattle.desk.specs.Mirror.Desk.{Holds, index_of, flag_at, flag_from}
+use Rattle.desk.specs.Mirror.Bytes.{Stand, find_in}
+use Rattle.desk.specs.Mirror.Desk.{flag_at, flag_from}
 use Rattle.desk.specs.Mirror.Masks.{bit_of, with_flag}
-use Rattle.desk.specs.Mirror.Bytes.{find_at}
-use Rattle.desk.specs.Mirror.Moves.{Listing}
+use Rattle.desk.specs.Mirror.Moves.{ListIs, formula_at}
 use Rattle.steps.specs.Mirror.Steps.{flag_by, hidden_by, selected_by, ChangeAtIs, ChangeIs, ChangeAllIs}
-use Rattle.desk.specs.declared.View.{View}
-use Rattle.steps.specs.declared.Act.{Act}
-use Rattle.steps.specs.declared.Act.TheVariants as act
+use Rattle.desk.specs.declared.hypotheses.Hypotheses.{Hypotheses}
+use Rattle.desk.specs.declared.list.List.{List as Formulas}
+use Rattle.desk.specs.declared.view.View.{View}
+use Rattle.steps.specs.declared.flags.Act.{Act}
+use Rattle.steps.specs.declared.flags.Act.TheVariants as act
 use Rattle.desk.proofs.MaskLaws.{set_is, hidden_is, selected_is}
-use Rattle.desk.proofs.Found.{find_is}
+use Rattle.desk.proofs.Found.{find_some, find_no}
 use Rattle.desk.proofs.AtPosition.{change_found, change_absent, change_long}
 use Rattle.steps.proofs.Listings.{Walk, walk_starts, walk_goes, walk_ends}
 
@@ -45,43 +48,44 @@ module _ (v : View) (i : ℕ) (k : Act) where
       let e : flag_from a' b' ≡ flag_by k (flag_at hs i) = rw (p, q, h₁, s₁) (bits_by k (flag_at hs i)) in
       rw e at (set_is v w i a' b' S desk places types hs H m few)
 
-module _ (desk places x : List ℕ) (v : View) (k : Act) (a e i : ℕ) (F : i ≡ find_at desk places v.hypotheses x a e) where
-  pub change_there : (w : View) → i < v.hypotheses → ChangeAtIs v i k w → ChangeIs desk places v k x a e w
+module _ (h : Hypotheses) (k : Act) (x : List ℕ) where
+  pub change_there : (i : ℕ) (w : View) → Some i ≡ find_in h x → ChangeAtIs h.view i k w → ChangeIs h k x w
   unfolding ChangeAtIs ChangeIs
-  change_there w l C types hs y H R few =
-      let j = find_is desk places v.hypotheses x a e i F v types hs y H refl R in
-      let m : index_of hs y < length hs = omega (arith, j, H.hypotheses_are) in
-      rw (change_found y (flag_by k) hs m, ← j) (C desk places types hs H (omega (arith, H.hypotheses_are)) few)
+  change_there i w F C types hs y H x≡ few =
+      let f = find_some h x types hs y H few x≡ i F in
+      rw (change_found y (flag_by k) hs f.1, ← f.0) (C h.bytes.now h.places.now types hs H (omega (arith, f.0, f.1)) few)
 
-  pub change_none : v.hypotheses ≤ i → ChangeIs desk places v k x a e v
+  pub change_none : None ≡ find_in h x → ChangeIs h k x h.view
   unfolding ChangeIs
-  change_none l types hs y H R few =
-      let j = find_is desk places v.hypotheses x a e i F v types hs y H refl R in
-      rw (change_absent y (flag_by k) hs (omega (arith, j, H.hypotheses_are))) H
+  change_none F types hs y H x≡ few = rw (change_absent y (flag_by k) hs (find_no h x types hs y H few x≡ F)) H
 
 pub ruleset flags = (change_past, change_set, change_there, change_none)
 
 -- ---- each of a list
-unfoldable pub ChangeLeft : Act → List ℕ → List ℕ → View → List ℕ → List ℕ → ℕ → View → ℕ → Type 0
-ChangeLeft k desk places v b starts n w i =
-    (types : List ℕ) (hs : List Hypothesis) (xs : List Tree) → Holds desk places v types hs → length hs ≤ 64 → Listing b starts n 0 xs
-    → Walk (change_all (flag_by k)) xs hs b starts n i (λ ks. Holds desk places w types ks × (length ks ≤ 64))
+-- the hypotheses with this view
+abbrev pub viewed : Hypotheses → View → Hypotheses
+viewed h w = record h { view = w }
 
-module _ (k : Act) (desk places : List ℕ) (v : View) (b starts : List ℕ) (n : ℕ) where
-  pub changes_start : ChangeLeft k desk places v b starts n v 0
+unfoldable pub ChangeLeft : Hypotheses → Act → Formulas → View → ℕ → Type 0
+ChangeLeft h k l w i =
+    (types : List ℕ) (hs : List Hypothesis) (xs : List Tree) → Stand h types hs → length hs ≤ 64 → ListIs l xs
+    → Walk (change_all (flag_by k)) xs hs l i (λ ks. Stand (viewed h w) types ks × (length ks ≤ 64))
+
+module _ (h : Hypotheses) (k : Act) (l : Formulas) where
+  pub changes_start : ChangeLeft h k l h.view 0
   unfolding ChangeLeft
-  changes_start types hs xs H few L = walk_starts (change_all (flag_by k)) xs hs b starts n _ L (H, few)
+  changes_start types hs xs H few L = walk_starts (change_all (flag_by k)) xs hs l _ L (H, few)
 
-  module _ (w : View) (i : ℕ) (I : ChangeLeft k desk places v b starts n w i) where
-    pub changes_go : (u : View) → i < n → ChangeIs desk places w k b (get_or starts i 0) (get_or starts (i + 1) 0) u → ChangeLeft k desk places v b starts n u (i + 1)
+  module _ (w : View) (i : ℕ) (I : ChangeLeft h k l w i) where
+    pub changes_go : (x : List ℕ) (u : View) → i < l.count → x ≡ formula_at l i → ChangeIs (viewed h w) k x u → ChangeLeft h k l u (i + 1)
     unfolding ChangeLeft ChangeIs change_all
-    changes_go u l C types hs xs H few L =
-        walk_goes (change_all (flag_by k)) xs hs b starts n i _ (I types hs xs H few L) _ l
-        (λ x rest now X h. (change (flag_by k) x now, refl, (C types now x h.0 X h.1, rw (change_long (flag_by k) x now) h.1)))
+    changes_go x u m x≡ C types hs xs H few L =
+        walk_goes (change_all (flag_by k)) xs hs l i _ (I types hs xs H few L) _ m
+        (λ y rest now X H'. (change (flag_by k) y now, refl, (C types now y H'.0 (x≡ ∙ X) H'.1, rw (change_long (flag_by k) y now) H'.1)))
 
-    pub changes_end : n ≤ i → ChangeAllIs k desk places v b starts n w
+    pub changes_end : l.count ≤ i → ChangeAllIs h k l w
     unfolding ChangeLeft ChangeAllIs change_all
-    changes_end l types hs xs H few L = walk_ends (change_all (flag_by k)) xs hs b starts n i _ (I types hs xs H few L) (Holds desk places w types) l (λ now h. h.0)
+    changes_end m types hs xs H few L = walk_ends (change_all (flag_by k)) xs hs l i _ (I types hs xs H few L) (Stand (viewed h w) types) m (λ now H'. H'.0)
 
 pub ruleset changing = (changes_start, changes_go, changes_end)
 

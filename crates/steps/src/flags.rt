@@ -1,102 +1,87 @@
 // A flag of the desk changed: select, deselect, hide and show.
-ghost use Rattle.std.specs.Prelude.{◌≡◌, ◌<◌, length};
+ghost use Rattle.std.specs.Prelude.{◌≡◌};
 ghost use Rattle.steps.specs.Mirror.Steps.{hidden_by, selected_by, ChangeAtIs, ChangeIs, ChangeAllIs, views_differ};
 
-use super::Act;
-use desk::View;
-use desk::find::find;
-use desk::mask::{has_bit, with_flag};
+use desk::{Hypotheses, List, View};
 
-// Whether a flag is hidden after the act.
-fn hidden_by(k: Act, hidden: bool) -> bool
-    ensures { result ≡ hidden_by k hidden }
-{
-    match k {
-        Act::Select => false,
-        Act::Deselect => hidden,
-        Act::Hide => true,
-        Act::Show => false,
-    }
+// The acts on one flag. `hides` and `selects` say of each, in a line, what document 01 says of it.
+#[derive(Clone, Copy, PartialEq, Eq)]
+pub enum Act {
+    Select,
+    Deselect,
+    Hide,
+    Show,
 }
 
-// Whether a flag is selected after the act.
-fn selected_by(k: Act, selected: bool) -> bool
-    ensures { result ≡ selected_by k selected }
-{
-    match k {
-        Act::Select => true,
-        Act::Deselect => false,
-        Act::Hide => false,
-        Act::Show => selected,
+impl Act {
+    // Whether a flag is hidden after the act.
+    fn hides(self, hidden: bool) -> bool
+        ensures { result ≡ hidden_by self hidden }
+    {
+        match self {
+            Act::Select => false,
+            Act::Deselect => hidden,
+            Act::Hide => true,
+            Act::Show => false,
+        }
+    }
+
+    // Whether a flag is selected after the act.
+    fn selects(self, selected: bool) -> bool
+        ensures { result ≡ selected_by self selected }
+    {
+        match self {
+            Act::Select => true,
+            Act::Deselect => false,
+            Act::Hide => false,
+            Act::Show => selected,
+        }
     }
 }
 
 // The act done on the hypothesis at i; there are at most 64.
-pub fn change_at(v: View, i: usize, k: Act) -> View
-    ensures { ChangeAtIs v i k result }
+#[tactic(auto, using(crate::proofs::FlagLaws::flags))]
+pub fn change_at(view: View, i: usize, act: Act) -> View
+    ensures { ChangeAtIs view i act result }
 {
     if 63 < i {
-        return v;
+        return view;
     }
-    let hidden = hidden_by(k, has_bit(v.hidden, i));
-    let selected = selected_by(k, has_bit(v.selected, i));
-    with_flag(v, i, hidden, selected)
+    let hidden = act.hides(view.is_hidden(i));
+    let selected = act.selects(view.is_selected(i));
+    view.with_flag(i, hidden, selected)
 }
 
-// The act done on the hypothesis x[a..e]; nothing changes if it is none.
-pub fn change(
-    desk: &[u8],
-    places: &[usize; 65],
-    v: View,
-    k: Act,
-    x: &[u8],
-    a: usize,
-    e: usize,
-) -> View
-    ensures { ChangeIs desk.now places.now v k x.now a e result }
+// The act done on the hypothesis that is this formula; nothing changes if it is none.
+#[tactic(auto, using(crate::proofs::FlagLaws::flags))]
+pub fn change(hypotheses: Hypotheses, act: Act, formula: &[u8]) -> View
+    ensures { ChangeIs hypotheses.entry act formula.now result }
 {
-    let i = find(desk, places, v.hypotheses, x, a, e);
-    if i < v.hypotheses {
-        change_at(v, i, k)
-    } else {
-        v
+    match hypotheses.find(formula) {
+        Some(i) => change_at(hypotheses.view, i, act),
+        None => hypotheses.view,
     }
 }
 
-// The act done on each of the n formulas of a list.
-pub fn change_all(
-    desk: &[u8],
-    places: &[usize; 65],
-    v: View,
-    k: Act,
-    list: &[u8],
-    starts: &[usize],
-    n: usize,
-) -> View
-    requires { n < length starts.now }
-    ensures { ChangeAllIs k desk.now places.now v list.now starts.now n result }
+// The act done on each formula of a list.
+#[tactic(auto, using(crate::proofs::FlagLaws::changing))]
+pub fn change_all(hypotheses: Hypotheses, act: Act, list: &List) -> View
+    ensures { ChangeAllIs hypotheses.entry act list.now result }
 {
-    let mut w = v;
-    let mut i = 0;
-    while i < n {
-        w = change(desk, places, w, k, list, starts[i], starts[i + 1]);
-        i += 1;
+    let mut changed = hypotheses;
+    for i in 0..list.count {
+        changed.view = change(changed, act, list.formula(i));
     }
-    w
+    changed.view
 }
 
 // Whether the sequent differs: in number, in a flag, or in its goal.
-pub fn differs(v: View, w: View, goal: bool) -> bool
-    ensures { result ≡ views_differ v w goal }
+#[tactic(auto, unfolding(crate::specs::Mirror::Steps::views_differ))]
+pub fn differs(before: View, after: View, goal: bool) -> bool
+    ensures { result ≡ views_differ before after goal }
 {
-    if v.hypotheses != w.hypotheses {
-        return true;
-    }
-    if v.hidden != w.hidden {
-        return true;
-    }
-    if v.selected != w.selected {
-        return true;
-    }
-    goal
+    before.hypotheses != after.hypotheses
+        || before.hidden != after.hidden
+        || before.selected != after.selected
+        || goal
 }

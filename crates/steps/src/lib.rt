@@ -4,11 +4,4 @@
 pub mod add;
 pub mod flags;
 
-// The acts on one flag.
-#[derive(Clone, Copy)]
-pub enum Act {
-    Select,
-    Deselect,
-    Hide,
-    Show,
-}
+pub use flags::Act;

@@ -1,13 +1,13 @@
 -- THE LAWS of the public functions: a source answers, position by position, what its entries say.
 use Prim.Native.Nat.{ℕ, zero, suc, ◌+◌, ◌≤◌}
 use mathlib.Core.Path.{◌≡◌, refl, sym, ap, ◌∙◌, subst}
-use mathlib.Core.Bool.{Bool, true, false, ◌||◌}
+use mathlib.Core.Bool.{Bool, true, false}
 use mathlib.Core.Option.{Option, some, none}
 use mathlib.Core.List.{List, [], ◌∷◌, map}
 use native.Mathlib.Nat.{add-zero, zero-add}
 use native.Mathlib.Omega.{arith}
 use lib.ListN.{length, length-map}
-use lib.Dec.{eqb}
+use Rattle.std.specs.Prelude.{Some, None}
 use Rattle.formula.specs.Pick.{pick, at}
 use Rattle.formula.specs.Codes as C
 use Rattle.formula.specs.Codes.{Rel, Code, con, ident, bound, lit, rel, fun, many, qu, rel_byte, byte_of}
@@ -25,22 +25,20 @@ use Rattle.keys.specs.Keys.{rows_of}
 use Rattle.keys.specs.Substitutes.{turned, relation, Entry, entry_of, literal?, entries_by, candidates, met_entries, substitutes}
 use Rattle.keys.specs.Mirror.Stripping.{strip_from, strip_at}
 use Rattle.keys.specs.Mirror.PackedKeys.{itself_number, nothing_number}
-use Rattle.keys.specs.Mirror.Ranges.{part}
-use Rattle.variations.specs.Answers.{answer, first_for, or_next, first_yes, code_byte, AskedOf, AskedIs}
+use Rattle.keys.specs.Mirror.Constants.{part}
+use Rattle.variations.specs.Answers.{Answer, answer, first_for, or_next, first_yes, code_byte, AskedOf, AskedIs}
 use Rattle.variations.specs.Mirror.SourceBytes.{sides_at, facts_at, relational, lone_number, no_facts, source_with, related_by, lone_by, source_by, source_at, key_is, asked_at, first_from, first_key}
 use Rattle.variations.specs.Mirror.Positions.{SourceIs, KeyIs, FirstIs}
-use Rattle.variations.specs.declared.Sides.{Sides}
-use Rattle.keys.specs.declared.Facts.{Facts}
+use Rattle.keys.specs.declared.rows.Sides.{Sides}
+use Rattle.keys.specs.declared.facts.Facts.{Facts}
 use Rattle.keys.specs.declared.Part.{Part}
-use Rattle.keys.specs.declared.Source.{Source}
-use Rattle.keys.specs.declared.Asked.{Asked}
-use Rattle.variations.specs.declared.Keyed.{Keyed}
-use Rattle.variations.specs.declared.Keyed.TheVariants as keyed
+use Rattle.keys.specs.declared.rows.Source.{Source}
+use Rattle.keys.specs.declared.rows.Asked.{Asked}
 use Rattle.keys.proofs.TableIs.{group_of, count_is, lone_count, literal_count}
 use Rattle.keys.proofs.RowIs.{AskedBytes}
 use Rattle.keys.proofs.Standing.{There, some_bytes, first_byte, there_bytes, there_skip, range_there, range_ends, range_bytes}
 use Rattle.keys.proofs.StripIs.{strip_is}
-use Rattle.variations.proofs.SourceIs.{rel_two, Sided, sided, sides_short, PartsAre, parts_are, shape_is, meets_is}
+use Rattle.variations.proofs.SourceIs.{rel_two, Sided, sided, sides_short, PartsAre, parts_are, shape_law, meets_is}
 use Rattle.variations.proofs.KeyAnswers.{relation_answers, lone_answers, none_answers}
 
 -- a source says, of any predicate and at any position, what these entries say
@@ -55,14 +53,14 @@ rel_related = elim [ C.eq ↦ refl | C.lt ↦ refl | C.le ↦ refl | C.gt ↦ re
 
 module _ (s types : List ℕ) (p e : ℕ) (b : Bool) (q : Rel) (l r : Tree) (c≡ : byte_at s p ≡ rel_byte q) (S : Sided s types p e l r) (short : length (encode l) ≤ 1024) where
   source : Source
-  source = source_with (group_of b (turned q l r).shape) (part p e) (sides_at s (part p e)) (facts_at s types (sides_at s (part p e)).left (sides_at s (part p e)).right)
+  source = source_with (group_of b (turned q l r).shape) (part p e) (sides_at s (part p e)) (facts_at s types (sides_at s (part p e)))
 
   parts : PartsAre s types (sides_at s (part p e)) (turned q l r).left (turned q l r).right
   parts = parts_are s types p e q l r c≡ S short
 
   source_is : source ≡ source_by s types (part p e) b
   unfolding source_by related_by source
-  source_is = rw (c≡, rel_related q, shape_is s types q l r (sides_at s (part p e)).right parts.1) refl
+  source_is = rw (c≡, rel_related q, shape_law s types q l r (sides_at s (part p e)).right parts.1) refl
 
   source_says : Says s source (map (entry_of (types_of types) (turned q l r)) (rows_of b (turned q l r).shape))
   unfolding source_with source
@@ -91,12 +89,11 @@ bind_unrelated C.all k = refl
 bind_unrelated C.ex k = refl
 bind_unrelated C.compr k = refl
 
-lone_says : (s : List ℕ) (p e : ℕ) (b : Bool) (x : Tree) → There s p x → p + length (encode x) ≡ e → (z : Sides) (f : Facts) (u v : Bool)
-    → Says s (source_with (pick u nothing_number (pick v nothing_number (itself_number b))) (part p e) z f) (pick (u || v) [] (some (record { key = x; value = b }) ∷ []))
+lone_says : (s : List ℕ) (p e : ℕ) (b : Bool) (x : Tree) → There s p x → p + length (encode x) ≡ e → (z : Sides) (f : Facts) (u : Bool)
+    → Says s (source_with (pick u nothing_number (itself_number b)) (part p e) z f) (pick u [] (some (record { key = x; value = b }) ∷ []))
 unfolding source_with
-lone_says s p e b x T i z f true v = record { count_is = literal_count; says = λ k t y w Y. none_answers s (source_with nothing_number (part p e) z f) t y w literal_count k }
-lone_says s p e b x T i z f false true = record { count_is = literal_count; says = λ k t y w Y. none_answers s (source_with nothing_number (part p e) z f) t y w literal_count k }
-lone_says s p e b x T i z f false false = record {
+lone_says s p e b x T i z f true = record { count_is = literal_count; says = λ k t y w Y. none_answers s (source_with nothing_number (part p e) z f) t y w literal_count k }
+lone_says s p e b x T i z f false = record {
   count_is = lone_count b;
   says = λ k t y w Y. lone_answers s (source_with (itself_number b) (part p e) z f) x (rw (← i) (there_bytes s p x T)) t y w Y b refl (lone_count b) k;
 }
@@ -105,7 +102,7 @@ module _ (s types : List ℕ) (p e : ℕ) (b : Bool) where
   lone_by_law : (k : Code) (xs : Trees) → There s p (node k xs) → p + length (encode (node k xs)) ≡ e → relational (byte_of k) ≡ false
       → Says s (source_by s types (part p e) b) (pick (literal? (node k xs)) [] (some (record { key = node k xs; value = b }) ∷ []))
   unfolding source_by lone_by lone_number
-  lone_by_law k xs T i h = rw (first_byte s p k xs T, h) (lone_says s p e b (node k xs) T i (record { left = part 0 0; right = part 0 0 }) no_facts (eqb (byte_of k) 1) (eqb (byte_of k) 2))
+  lone_by_law k xs T i h = rw (first_byte s p k xs T, h) (lone_says s p e b (node k xs) T i (record { left = part 0 0; right = part 0 0 }) no_facts (literal? (node k xs)))
 
   -- ---- every predicate
   source_says_all : (x : Tree) (n : ℕ) (τ : Ty) → There s p x → p + length (encode x) ≡ e → length (encode x) ≤ 1024 → Formed n (length types) 0 sort.Predicate x
@@ -151,19 +148,19 @@ unfolding asked_at
 asked_law t from r e l n d end y F h R =
     let T = range_there t from end y R in
     let k : skip_end t from ≡ end = there_skip t from y T l n d sort.Predicate F h ∙ range_ends t from end y R in
-    (ap (λ (r : Asked). r.at) e, record { code_is = ap (λ (r : Asked). r.code) e ∙ code_there t from y T; stands = rw (e, k) R })
+    (ap (λ (r : Asked). r.whole.at) e, record { code_is = ap (λ (r : Asked). r.code) e ∙ code_there t from y T; stands = rw (e, k) R })
 
 asked_bytes : (t : List ℕ) (w : Tree) (y : Asked) → AskedOf t w y → AskedBytes t y (encode w)
 unfolding byte_at
 asked_bytes t w y A =
     let R = A.stands in
     record {
-      there = range_bytes t y.at y.end w R;
+      there = range_bytes t y.whole.at y.whole.end w R;
       some_byte = some_bytes w;
-      code_is = A.code_is ∙ sym (code_there t y.at w (range_there t y.at y.end w R));
+      code_is = A.code_is ∙ sym (code_there t y.whole.at w (range_there t y.whole.at y.whole.end w R));
     }
 
-pub key_law : (s : List ℕ) (x : Source) (k : ℕ) (t : List ℕ) (y : Asked) (r : Keyed) → r ≡ key_is s x k t y → KeyIs s x k t y r
+pub key_law : (s : List ℕ) (x : Source) (k : ℕ) (t : List ℕ) (y : Asked) (r : Answer) → r ≡ key_is s x k t y → KeyIs s x k t y r
 key_law s x k t y r e types starts z w S A =
     e ∙ ap (λ (x : Source). key_is s x k t y) S.made ∙ (made_says s types S.place starts z S.accepted S.stands).says k t y w (asked_bytes t w y A)
 
@@ -171,22 +168,22 @@ key_law s x k t y r e types starts z w S A =
 one_on : (j k : ℕ) → j + 1 + k ≡ j + suc k
 one_on j k = omega arith
 
-first_entry : (es : List (Option Entry)) (w : Tree) (f : ℕ → Keyed) (j : ℕ) → ((k : ℕ) → f (j + k) ≡ answer (at es k) w) → first_yes f (length es) j ≡ first_for (met_entries es) w
+first_entry : (es : List (Option Entry)) (w : Tree) (f : ℕ → Answer) (j : ℕ) → ((k : ℕ) → f (j + k) ≡ answer (at es k) w) → first_yes f (length es) j ≡ first_for (met_entries es) w
 unfolding first_yes first_for
 first_entry [] w f j h = refl
 first_entry (none ∷ es) w f j h =
-    let z : f j ≡ keyed.No = ap f (sym (add-zero j)) ∙ h 0 in
+    let z : f j ≡ None = ap f (sym (add-zero j)) ∙ h 0 in
     rw z (first_entry es w f (j + 1) (λ k. ap f (one_on j k) ∙ h (suc k)))
 first_entry (some e ∷ es) w f j h =
-    let z : f j ≡ pick (same e.key w) (keyed.Yes e.value) keyed.No = ap f (sym (add-zero j)) ∙ h 0 in
+    let z : f j ≡ pick (same e.key w) (Some e.value) None = ap f (sym (add-zero j)) ∙ h 0 in
     rw (z, first_entry es w f (j + 1) (λ k. ap f (one_on j k) ∙ h (suc k))) (go (same e.key w))
   where
-    go : (b : Bool) → or_next (pick b (keyed.Yes e.value) keyed.No) (first_for (met_entries es) w) ≡ pick b (keyed.Yes e.value) (first_for (met_entries es) w)
+    go : (b : Bool) → or_next (pick b (Some e.value) None) (first_for (met_entries es) w) ≡ pick b (Some e.value) (first_for (met_entries es) w)
     go true = refl
     go false = refl
 
 -- THE THEOREM: of answers to all positions the first that says Yes is that of the first entry for the predicate, and none says Yes if there is none
-pub first_position : (types : List ℕ) (starts : Bool) (x w : Tree) (f : ℕ → Keyed) → ((k : ℕ) → f k ≡ answer (at (candidates types starts x) k) w)
+pub first_position : (types : List ℕ) (starts : Bool) (x w : Tree) (f : ℕ → Answer) → ((k : ℕ) → f k ≡ answer (at (candidates types starts x) k) w)
     → first_yes f (length (candidates types starts x)) 0 ≡ first_for (substitutes types starts x) w
 unfolding substitutes
 first_position types starts x w f h = first_entry (candidates types starts x) w f 0 (λ k. ap f (zero-add k) ∙ h k)
@@ -196,7 +193,7 @@ unfolding first_from first_yes
 walked s x t y zero k = refl
 walked s x t y (suc n) k = ap (or_next (key_is s x k t y)) (walked s x t y n (k + 1))
 
-pub first_law : (s : List ℕ) (r : Source) (t : List ℕ) (y : Asked) (z : Keyed) → z ≡ first_key s r t y → FirstIs s r t y z
+pub first_law : (s : List ℕ) (r : Source) (t : List ℕ) (y : Asked) (z : Answer) → z ≡ first_key s r t y → FirstIs s r t y z
 unfolding first_key
 first_law s r t y z e types starts x w S A =
     e ∙ walked s r t y r.count 0 ∙ ap (λ (n : ℕ). first_yes (λ k. key_is s r k t y) n 0) S.count_is

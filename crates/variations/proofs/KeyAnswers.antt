@@ -8,6 +8,7 @@ use native.Mathlib.Omega.{arith}
 use lib.ListN.{length, get_or}
 use lib.Dec.{eqb, leb}
 use borrow.Author.Tests.{le-leb, lt-leb, leb-true, leb-false}
+use Rattle.std.specs.Prelude.{Some, None}
 use Rattle.formula.specs.Pick.{pick, at}
 use Rattle.formula.specs.Codes.{Rel, eq, lt, le, gt, ge, mem, sub, sube, con, nat, nat1, rel_byte}
 use Rattle.formula.specs.Types.{Ty, types_of}
@@ -18,14 +19,12 @@ use Rattle.formula.proofs.SameType.{same_test}
 use Rattle.keys.specs.Keys.{Side, L, R, Z, Key, key, in_nat, in_nat1, Marked, rows_of, Condition}
 use Rattle.keys.specs.Substitutes.{Relation, side, key_tree, entry_of, meets}
 use Rattle.keys.specs.Mirror.PackedKeys.{side_number, itself_number, condition_number, pack_row, key_at}
-use Rattle.keys.specs.Mirror.Ranges.{constants}
-use Rattle.keys.specs.Mirror.RowTests.{part_of, meets_by, row_is}
-use Rattle.variations.specs.Mirror.SourceBytes.{key_is}
+use Rattle.keys.specs.Mirror.Constants.{constants}
+use Rattle.keys.specs.Mirror.RowTests.{condition_by, meets_by, side_by, side_bytes, side_part, row_is}
+use Rattle.variations.specs.Mirror.SourceBytes.{row_says, key_is}
 use Rattle.variations.specs.Answers.{answer}
-use Rattle.keys.specs.declared.Source.{Source}
-use Rattle.keys.specs.declared.Asked.{Asked}
-use Rattle.variations.specs.declared.Keyed.{Keyed}
-use Rattle.variations.specs.declared.Keyed.TheVariants as keyed
+use Rattle.keys.specs.declared.rows.Source.{Source}
+use Rattle.keys.specs.declared.rows.Asked.{Asked}
 use Rattle.keys.proofs.TableIs.{code_of, left_of, right_of, Columns, AllColumns, first_of, row_there, columns_of, lone_row, lone_code, lone_value}
 use Rattle.keys.proofs.RowIs.{Bytes, SideBytes, AskedBytes, row_relation, row_whole}
 use Rattle.keys.proofs.Standing.{there_bytes}
@@ -59,48 +58,44 @@ key_code (key q a b) = rel_code q
 key_code (in_nat a) = rel_code mem
 key_code (in_nat1 a) = rel_code mem
 
-module _ (s types : List ℕ) (x : Source) (l r : Tree) (A : PartIs s types x.left l) (B : PartIs s types x.right r) where
-  side_bytes : (a : Side) → SideBytes s (part_of x (side_number a)) (side_number a) (encode (side l r a))
-  unfolding part_of constants encode
-  side_bytes L = rw (← A.long) (there_bytes s x.left.at l A.side.there)
-  side_bytes R = rw (← B.long) (there_bytes s x.right.at r B.side.there)
-  side_bytes Z = record { long = refl; in_bounds = omega arith; bytes_are = refl }
+module _ (s types : List ℕ) (x : Source) (l r : Tree) (A : PartIs s types x.sides.left l) (B : PartIs s types x.sides.right r) where
+  side_there : (a : Side) → SideBytes s x (side_by (side_number a)) (encode (side l r a))
+  unfolding side_by side_bytes side_part constants encode
+  side_there L = rw (← A.long) (there_bytes s x.sides.left.at l A.side.there)
+  side_there R = rw (← B.long) (there_bytes s x.sides.right.at r B.side.there)
+  side_there Z = record { long = refl; in_bounds = omega arith; bytes_are = refl }
 
-  left_bytes : (k : Key) → SideBytes s (part_of x (left_of k)) (left_of k) (encode (left_tree l r k))
-  left_bytes (key q a b) = side_bytes a
-  left_bytes (in_nat a) = side_bytes a
-  left_bytes (in_nat1 a) = side_bytes a
+  left_there : (k : Key) → SideBytes s x (side_by (left_of k)) (encode (left_tree l r k))
+  left_there (key q a b) = side_there a
+  left_there (in_nat a) = side_there a
+  left_there (in_nat1 a) = side_there a
 
-  right_bytes : (k : Key) → SideBytes s (part_of x (right_of k)) (right_of k) (encode (right_tree l r k))
-  unfolding part_of constants encode
-  right_bytes (key q a b) = side_bytes b
-  right_bytes (in_nat a) = record { long = refl; in_bounds = omega arith; bytes_are = refl }
-  right_bytes (in_nat1 a) = record { long = refl; in_bounds = omega arith; bytes_are = refl }
+  right_there : (k : Key) → SideBytes s x (side_by (right_of k)) (encode (right_tree l r k))
+  unfolding side_by side_bytes side_part constants encode
+  right_there (key q a b) = side_there b
+  right_there (in_nat a) = record { long = refl; in_bounds = omega arith; bytes_are = refl }
+  right_there (in_nat1 a) = record { long = refl; in_bounds = omega arith; bytes_are = refl }
 
 -- ---- a row
--- what a row with the number n says
-abbrev pub verdict : List ℕ → Source → List ℕ → Asked → ℕ → Keyed
-verdict s x t y n = pick (row_is s x n t y) (keyed.Yes (eqb (field n 32) 1)) keyed.No
-
 entry_answer : (Γ : List Ty) (q : Relation) (m : Marked) (y : Tree) (v : Bool) → v ≡ m.value
-    → pick (pick (meets Γ q.left q.right m.condition) (same (key_tree q.left q.right m.key_is) y) false) (keyed.Yes v) keyed.No ≡ answer (entry_of Γ q m) y
+    → pick (pick (meets Γ q.left q.right m.condition) (same (key_tree q.left q.right m.key_is) y) false) (Some v) None ≡ answer (entry_of Γ q m) y
 entry_answer Γ q m y v e = rw e (go (meets Γ q.left q.right m.condition))
   where
-    go : (c : Bool) → pick (pick c (same (key_tree q.left q.right m.key_is) y) false) (keyed.Yes m.value) keyed.No
+    go : (c : Bool) → pick (pick c (same (key_tree q.left q.right m.key_is) y) false) (Some m.value) None
         ≡ answer (pick c (some (record { key = key_tree q.left q.right m.key_is; value = m.value })) none) y
     go true = refl
     go false = refl
 
-module _ (s types : List ℕ) (x : Source) (q : Relation) (A : PartIs s types x.left q.left) (B : PartIs s types x.right q.right)
-    (M : (c : Condition) → meets_by x.facts (condition_number c) ≡ meets (types_of types) q.left q.right c) (t : List ℕ) (y : Asked) (w : Tree) (Y : AskedBytes t y (encode w)) where
-  row_answer : (m : Marked) → Columns m → verdict s x t y (pack_row m) ≡ answer (entry_of (types_of types) q m) w
+module _ (s types : List ℕ) (x : Source) (q : Relation) (A : PartIs s types x.sides.left q.left) (B : PartIs s types x.sides.right q.right)
+    (M : (c : Condition) → meets_by x.facts (condition_by (condition_number c)) ≡ meets (types_of types) q.left q.right c) (t : List ℕ) (y : Asked) (w : Tree) (Y : AskedBytes t y (encode w)) where
+  row_answer : (m : Marked) → Columns m → row_says s x t y (pack_row m) ≡ answer (entry_of (types_of types) q m) w
   unfolding same
   row_answer m C =
       let k = m.key_is in
       let l = left_tree q.left q.right k in
       let r = right_tree q.left q.right k in
-      let a : SideBytes s (part_of x (field (pack_row m) 8)) (field (pack_row m) 8) (encode l) = rw C.left_is (left_bytes s types x q.left q.right A B k) in
-      let b : SideBytes s (part_of x (field (pack_row m) 16)) (field (pack_row m) 16) (encode r) = rw C.right_is (right_bytes s types x q.left q.right A B k) in
+      let a : SideBytes s x (side_by (field (pack_row m) 8)) (encode l) = rw C.left_is (left_there s types x q.left q.right A B k) in
+      let b : SideBytes s x (side_by (field (pack_row m) 16)) (encode r) = rw C.right_is (right_there s types x q.left q.right A B k) in
       let i : row_is s x (pack_row m) t y ≡ pick (meets (types_of types) q.left q.right m.condition) (same (key_tree q.left q.right k) w) false =
       row_relation s x (pack_row m) t y (encode w) Y (code_of k) (encode l) (encode r) a b C.code_is (key_code k) ∙ rw (C.condition_is, M m.condition, key_bytes q.left q.right k) refl in
       rw i (entry_answer (types_of types) q m w (eqb (field (pack_row m) 32) 1) C.value_is)
@@ -111,7 +106,7 @@ module _ (s types : List ℕ) (x : Source) (q : Relation) (A : PartIs s types x.
       same_test (leb (suc n) (suc k)) (leb n k) (λ e. let i = leb-true (suc n) (suc k) e in le-leb n k (omega arith)) (λ e. let i = leb-true n k e in le-leb (suc n) (suc k) (omega arith))
 
   rows_answer : (ms : List Marked) → AllColumns ms → (k : ℕ)
-      → pick (leb (length ms) k) keyed.No (verdict s x t y (get_or (map pack_row ms) k 0)) ≡ answer (at (map (entry_of (types_of types) q) ms) k) w
+      → pick (leb (length ms) k) None (row_says s x t y (get_or (map pack_row ms) k 0)) ≡ answer (at (map (entry_of (types_of types) q) ms) k) w
   rows_answer [] C k = simp (le-leb 0 k (omega arith))
   rows_answer (m ∷ ms) C zero = simp (lt-leb (suc (length ms)) 0 (omega arith)) (row_answer m C.0)
   rows_answer (m ∷ ms) C (suc k) = rw (leb_suc (length ms) k) (rows_answer ms C.1 k)
@@ -120,12 +115,12 @@ module _ (s types : List ℕ) (x : Source) (q : Relation) (A : PartIs s types x.
       → key_is s x k t y ≡ answer (at (map (entry_of (types_of types) q) (rows_of b q.shape)) k) w
   unfolding key_is
   relation_answers b f c k =
-      ap₂ (λ (n i : ℕ). pick (leb n k) keyed.No (verdict s x t y (key_at (i + k)))) c f
+      ap₂ (λ (n i : ℕ). pick (leb n k) None (row_says s x t y (key_at (i + k)))) c f
       ∙ go (leb (length (rows_of b q.shape)) k) refl ∙ rows_answer (rows_of b q.shape) (columns_of b q.shape) k
     where
       go : (v : Bool) → leb (length (rows_of b q.shape)) k ≡ v
-          → pick (leb (length (rows_of b q.shape)) k) keyed.No (verdict s x t y (key_at (first_of b q.shape + k)))
-          ≡ pick (leb (length (rows_of b q.shape)) k) keyed.No (verdict s x t y (get_or (map pack_row (rows_of b q.shape)) k 0))
+          → pick (leb (length (rows_of b q.shape)) k) None (row_says s x t y (key_at (first_of b q.shape + k)))
+          ≡ pick (leb (length (rows_of b q.shape)) k) None (row_says s x t y (get_or (map pack_row (rows_of b q.shape)) k 0))
       go true e = simp e
       go false e = rw (row_there b q.shape k (leb-false (length (rows_of b q.shape)) k e)) refl
 
@@ -134,8 +129,8 @@ module _ (s : List ℕ) (x : Source) (z : Tree) (X : Bytes s x.whole.at x.whole.
   pub lone_answers : (b : Bool) → x.first ≡ field (key_at (itself_number b)) 0 → x.count ≡ 1 → (k : ℕ) → key_is s x k t y ≡ answer (at (some (record { key = z; value = b }) ∷ []) k) w
   unfolding key_is same
   lone_answers b f c zero =
-      let i : verdict s x t y (key_at (x.first + 0)) ≡ pick (same_bytes (encode z) (encode w)) (keyed.Yes b) keyed.No =
-      ap (λ (i : ℕ). verdict s x t y (key_at (i + 0))) f ∙ ap₂ (λ (u v : Bool). pick u (keyed.Yes v) keyed.No) (row_whole s x (lone_row b) t y (encode w) Y (encode z) X (lone_code b)) (lone_value b) in
+      let i : row_says s x t y (key_at (x.first + 0)) ≡ pick (same_bytes (encode z) (encode w)) (Some b) None =
+      ap (λ (i : ℕ). row_says s x t y (key_at (i + 0))) f ∙ ap₂ (λ (u v : Bool). pick u (Some v) None) (row_whole s x (lone_row b) t y (encode w) Y (encode z) X (lone_code b)) (lone_value b) in
       simp (lt-leb x.count 0 (omega (arith, c))) i
   lone_answers b f c (suc k) = simp (le-leb x.count (suc k) (omega (arith, c)))
 

@@ -8,6 +8,7 @@ use lib.ListN.{length, get_or, take, drop}
 use lib.Seq.{get_or-drop, take_at}
 use lib.Dec.{eqb, ltb, leb}
 use borrow.Author.Tests.{eqb-true, eq-eqb, ne_eqb, lt-ltb, le-leb, lt-leb, ltb-true, ltb-false}
+use Rattle.std.specs.Prelude.{Option, Some, None}
 use Rattle.formula.specs.Pick.{pick}
 use Rattle.formula.specs.Codes.{Code, lit, byte_of}
 use Rattle.formula.specs.NodeTable.{row_of, operands}
@@ -20,15 +21,18 @@ use Rattle.formula.proofs.Numbers.{own_bytes_law}
 use Rattle.formula.proofs.SameType.{same_test}
 use Rattle.formula.proofs.SameBytes.{same_bytes_is, is_same_bytes}
 use Rattle.formula.specs.Mirror.Ranges.{same_range}
-use Rattle.keys.specs.Mirror.Ranges.{part, constants}
-use Rattle.variations.specs.Mirror.SourceBytes.{literal_at}
+use Rattle.keys.specs.Mirror.Constants.{part, constants}
+use Rattle.keys.specs.Mirror.RowTests.{is_zero, is_positive, is_negative}
 use Rattle.keys.specs.declared.Part.{Part}
+use Rattle.keys.specs.declared.facts.Literal.{Literal}
+use Rattle.keys.specs.declared.facts.Literal.TheVariants as literal
+use Rattle.variations.specs.Mirror.SourceBytes.{literal_at}
 use Rattle.keys.proofs.RowIs.{Bytes, ranges_are}
 use Rattle.keys.proofs.Standing.{There, first_byte, row_by}
 
 -- the literal 0, positive, negative
-abbrev pub literal_kind : Bool → ℕ → ℕ
-literal_kind b w = pick b (pick (eqb w 0) 1 (pick (ltb w (2 ^ 63)) 2 3)) 0
+abbrev pub literal_kind : Bool → ℕ → Option Literal
+literal_kind b w = pick b (pick (eqb w 0) (Some literal.Zero) (pick (ltb w (2 ^ 63)) (Some literal.Positive) (Some literal.Negative))) None
 
 -- ---- words
 abbrev signed? : ℕ → ℕ → Bool
@@ -114,32 +118,32 @@ literal_is s a k xs T i o h = go (eqb (byte_of k) 34) refl
     go false q = rw (first_byte s a.at k xs T) (simp q)
 
 -- ---- what the conditions ask
-pub zero_is : (b : Bool) (w : ℕ) → eqb (literal_kind b w) 1 ≡ (b && eqb w 0)
+pub zero_is : (b : Bool) (w : ℕ) → is_zero (literal_kind b w) ≡ (b && eqb w 0)
 zero_is true w = go (eqb w 0) (ltb w (2 ^ 63))
   where
-    go : (u v : Bool) → eqb (pick u 1 (pick v 2 3)) 1 ≡ u
+    go : (u v : Bool) → is_zero (pick u (Some literal.Zero) (pick v (Some literal.Positive) (Some literal.Negative))) ≡ u
     go true v = refl
     go false true = refl
     go false false = refl
 zero_is false w = refl
 
-pub positive_is : (b : Bool) (w : ℕ) → eqb (literal_kind b w) 2 ≡ (b && (ltb 0 w && ltb w (2 ^ 63)))
+pub positive_is : (b : Bool) (w : ℕ) → is_positive (literal_kind b w) ≡ (b && (ltb 0 w && ltb w (2 ^ 63)))
 positive_is true zero = refl
 positive_is true (suc w) = go (ltb (suc w) (2 ^ 63))
   where
-    go : (v : Bool) → eqb (pick (eqb (suc w) 0) 1 (pick v 2 3)) 2 ≡ (ltb 0 (suc w) && v)
+    go : (v : Bool) → is_positive (pick (eqb (suc w) 0) (Some literal.Zero) (pick v (Some literal.Positive) (Some literal.Negative))) ≡ (ltb 0 (suc w) && v)
     go true = simp (ne_eqb (suc w) 0 (λ e. omega (arith, e)), lt-ltb 0 (suc w) (omega arith))
     go false = simp (ne_eqb (suc w) 0 (λ e. omega (arith, e)), lt-ltb 0 (suc w) (omega arith))
 positive_is false w = refl
 
-pub negative_is : (b : Bool) (w : ℕ) → eqb (literal_kind b w) 3 ≡ (b && leb (2 ^ 63) w)
+pub negative_is : (b : Bool) (w : ℕ) → is_negative (literal_kind b w) ≡ (b && leb (2 ^ 63) w)
 negative_is true w = go (ltb w (2 ^ 63)) refl
   where
-    go : (v : Bool) → ltb w (2 ^ 63) ≡ v → eqb (pick (eqb w 0) 1 (pick (ltb w (2 ^ 63)) 2 3)) 3 ≡ leb (2 ^ 63) w
-    go true q = let i = ltb-true w (2 ^ 63) q in rw (q, lt-leb (2 ^ 63) w i) (low (eqb w 0))
+    go : (v : Bool) → ltb w (2 ^ 63) ≡ v → is_negative (pick (eqb w 0) (Some literal.Zero) (pick v (Some literal.Positive) (Some literal.Negative))) ≡ leb (2 ^ 63) w
+    go true q = let i = ltb-true w (2 ^ 63) q in rw (lt-leb (2 ^ 63) w i) (low (eqb w 0))
       where
-        low : (u : Bool) → eqb (pick u 1 2) 3 ≡ false
+        low : (u : Bool) → is_negative (pick u (Some literal.Zero) (Some literal.Positive)) ≡ false
         low true = refl
         low false = refl
-    go false q = let i = ltb-false w (2 ^ 63) q in simp (q, le-leb (2 ^ 63) w i, ne_eqb w 0 (λ e. omega arith))
+    go false q = let i = ltb-false w (2 ^ 63) q in simp (le-leb (2 ^ 63) w i, ne_eqb w 0 (λ e. omega arith))
 negative_is false w = refl

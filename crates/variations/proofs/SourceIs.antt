@@ -1,4 +1,4 @@
--- A relational source on bytes: its sides, the conditions it meets and its group are those of the tree.
+-- A relational source on bytes: its sides, the conditions it meets and its shape are those of the tree.
 use Prim.Native.Nat.{ℕ, ◌+◌, ◌-◌, ◌≤◌}
 use mathlib.Core.Path.{◌≡◌, refl, sym, ap, ◌∙◌, subst}
 use mathlib.Core.Bool.{Bool, true, false}
@@ -25,12 +25,13 @@ use Rattle.formula.proofs.HeadIs.{type_there}
 use Rattle.keys.specs.Strip.{has_code}
 use Rattle.keys.specs.Keys.{in_set, inℕ, inℕ1, Condition, always, integers, sets, zero_left, zero_right, positive, negative}
 use Rattle.keys.specs.Substitutes.{turned, word_of, meets}
-use Rattle.keys.specs.Mirror.PackedKeys.{condition_number, shape_number}
-use Rattle.keys.specs.Mirror.Ranges.{part}
-use Rattle.keys.specs.Mirror.RowTests.{meets_by}
-use Rattle.variations.specs.Mirror.SourceBytes.{turned_round, sides_by, sides_at, literal_at, facts_at, member_number, relation_number}
+use Rattle.keys.specs.Mirror.PackedKeys.{condition_number}
+use Rattle.keys.specs.Mirror.Constants.{part}
+use Rattle.keys.specs.Mirror.RowTests.{condition_by, meets_by}
 use Rattle.keys.specs.declared.Part.{Part}
-use Rattle.variations.specs.declared.Sides.{Sides}
+use Rattle.variations.specs.Mirror.SourceBytes.{turned_round, sides_by, sides_at, literal_at, facts_at, shape_is, member_shape, shape_of}
+use Rattle.keys.specs.declared.rows.Sides.{Sides}
+use Rattle.variations.specs.declared.sources.Shape.TheVariants as shape
 use Rattle.keys.proofs.Standing.{There, first_byte, there_stands, there_skip, plain_long, operands_there}
 use Rattle.keys.proofs.SideTypes.{rel_plain, rel_inner, typed_sides}
 use Rattle.variations.proofs.LiteralIs.{literal_kind, literal_is, zero_is, positive_is, negative_is}
@@ -160,22 +161,22 @@ module _ (s types : List ℕ) (p e : ℕ) (q : Rel) (l r : Tree) (c≡ : byte_at
       rw (mid_found, c≡, turned_left q l r, turned_right q l r)
       (parts_by s types (turned_round (rel_byte q)) (part (p + 1) S.mid) (part S.mid e) l r (record { side = S.left; long = sym S.mid_is }) (record { side = S.right; long = sym S.end_is }))
 
--- ---- the group
-member_number_law : (u v : Bool) → pick u 4 (pick v 5 3) ≡ shape_number (pick u inℕ (pick v inℕ1 in_set))
-member_number_law true v = refl
-member_number_law false true = refl
-member_number_law false false = refl
+-- ---- the shape
+member_law : (u v : Bool) → shape_is (pick u shape.InNat (pick v shape.InNat1 shape.InSet)) ≡ pick u inℕ (pick v inℕ1 in_set)
+member_law true v = refl
+member_law false true = refl
+member_law false false = refl
 
-pub shape_is : (s types : List ℕ) (q : Rel) (l r : Tree) (b : Part) → PartIs s types b (turned q l r).right → relation_number (rel_byte q) (byte_at s b.at) ≡ shape_number (turned q l r).shape
-unfolding relation_number member_number
-shape_is s types eq l r b B = refl
-shape_is s types lt l r b B = refl
-shape_is s types le l r b B = refl
-shape_is s types gt l r b B = refl
-shape_is s types ge l r b B = refl
-shape_is s types mem l r b B = rw (side_code s types b.at r B.side (con nat), side_code s types b.at r B.side (con nat1)) (member_number_law (has_code (con nat) r) (has_code (con nat1) r))
-shape_is s types sub l r b B = refl
-shape_is s types sube l r b B = refl
+pub shape_law : (s types : List ℕ) (q : Rel) (l r : Tree) (b : Part) → PartIs s types b (turned q l r).right → shape_is (shape_of (rel_byte q) (byte_at s b.at)) ≡ (turned q l r).shape
+unfolding shape_of member_shape
+shape_law s types eq l r b B = refl
+shape_law s types lt l r b B = refl
+shape_law s types le l r b B = refl
+shape_law s types gt l r b B = refl
+shape_law s types ge l r b B = refl
+shape_law s types mem l r b B = rw (side_code s types b.at r B.side (con nat), side_code s types b.at r B.side (con nat1)) (member_law (has_code (con nat) r) (has_code (con nat1) r))
+shape_law s types sub l r b B = refl
+shape_law s types sube l r b B = refl
 
 -- ---- the conditions
 part_literal : (s types : List ℕ) (a : Part) (x : Tree) → PartIs s types a x → literal_at s a ≡ literal_kind (has_code (lit 0) x) (word_of x)
@@ -210,8 +211,8 @@ module _ (s types : List ℕ) (z : Sides) (l r : Tree) (P : PartsAre s types z l
   right_type_law : type_at s types z.right.at ≡ bit (kind_of P.1.side.type)
   right_type_law = side_type s types z.right.at r P.1.side
 
-  pub meets_is : (c : Condition) → meets_by (facts_at s types z.left z.right) (condition_number c) ≡ meets (types_of types) l r c
-  unfolding meets_by facts_at
+  pub meets_is : (c : Condition) → meets_by (facts_at s types z) (condition_by (condition_number c)) ≡ meets (types_of types) l r c
+  unfolding condition_by meets_by facts_at
   meets_is always = refl
   meets_is integers = rw (right_type_law, P.1.side.typed) (int_bit P.1.side.type)
   meets_is sets = rw (right_type_law, P.1.side.typed) (set_bit P.1.side.type)

@@ -1,87 +1,66 @@
 // Asks what each line of standard input asks, and says which answers differ from the line's own.
 #![tactic(auto)]
 
-mod answers;
+mod act;
+mod answer;
 mod judge;
-mod questions;
+mod question;
 mod tally;
-mod text;
+mod words;
 
-ghost use Rattle.std.specs.Prelude.{◌≡◌, ◌≤◌, length};
+ghost use Rattle.std.specs.Prelude.{◌≤◌, length};
 
+use judge::judge;
+use question::Lent;
+use std::io;
 use std::io::Read;
-use tally::{cell_of, say, say_tally, settle};
-use text::{find, part};
-
-// Each line that has an end; answers where the last one ends.
-fn take_lines(
-    rt: &impl Print,
-    input: &[u8],
-    work: &mut [u8],
-    out: &mut [u8],
-    counts: &mut [u64],
-) -> usize {
-    let mut from = 0;
-    let mut turns = input.len();
-    while turns != 0 {
-        let end = find(input, from, b'\n');
-        if input.len() <= end {
-            return from;
-        }
-        settle(rt, counts, cell_of(part(input, from, end), work, out));
-        from = end + 1;
-        turns -= 1;
-    }
-    from
-}
-
-// Reads until the buffer is full, the input ends or a read fails; how many bytes then stand in it.
-fn read_full(from: &mut impl Read, buf: &mut [u8]) -> usize
-    ensures { result ≤ length buf.new }
-{
-    let mut done = 0;
-    while done < buf.len() {
-        match from.read(&mut buf[done..]) {
-            Ok(0) | Err(_) => return done,
-            Ok(n) => done += n,
-        }
-    }
-    done
-}
+use tally::Tally;
 
 // Room for all of the input.
-fn input_room() -> [u8; 4194304]
-    ensures { 4194304 ≡ length result }
-{
-    [0; 4194304]
+const INPUT: usize = 4194304;
+
+// Room for a result, and for no more than a line may name.
+const ROOM: usize = 66064;
+
+// Each line that has an end is counted, and said where it is not as it should be. A write that fails ends nothing: what else
+// is said goes on.
+fn take_lines(rt: &impl Print, input: &[u8], lent: &mut [Lent; 4], out: &mut [u8]) -> Tally {
+    let mut tally = Tally::default();
+    for line in input.split_inclusive(|b| *b == b'\n') {
+        match line.strip_suffix(b"\n") {
+            Some(line) => {
+                let (act, fate) = judge(line, lent, out);
+                tally.count(act, fate);
+                if fate.is_wrong() {
+                    let _ = println!(rt; "line {} {fate}", tally.lines());
+                }
+            }
+            None => {
+                let _ = println!(rt; "a line has no end");
+            }
+        }
+    }
+    tally
 }
 
-// Room for what a line lends.
-fn long_room() -> [u8; 280000]
-    ensures { 280000 ≡ length result }
+// Reads until the room is full, the input ends or a read fails: what then stands in it.
+// cofferdrift has the like: two programs, and no crate between them for these few lines.
+fn read_full<'a>(from: &mut impl Read, room: &'a mut [u8]) -> &'a [u8]
+    ensures { length result.now ≤ length room.old }
 {
-    [0; 280000]
-}
-
-// Room for a result: longer than any room that a line names.
-fn room() -> [u8; 66064]
-    ensures { 66064 ≡ length result }
-{
-    [0; 66064]
+    let most = room.len() as u64;
+    let mut rest = &mut room[..];
+    let _ = io::copy(&mut from.take(most), &mut rest);
+    let left = rest.len();
+    &room[..room.len().saturating_sub(left)]
 }
 
 // The arrays are made here once and lent down.
 fn main(rt: HostRuntime) {
-    let mut input = input_room();
-    let mut work = long_room();
-    let mut out = room();
-    let mut counts = [0u64; 136];
-    let n = read_full(&mut rt.stdin(), &mut input);
-    let end = take_lines(&rt, &input[..n], &mut work, &mut out, &mut counts);
-    if end != n {
-        say(&rt, b"a line has no end\n");
-    }
-    say(&rt, b"by act:");
-    say_tally(&rt, &counts);
-    say(&rt, b"\n");
+    let mut input = [0u8; INPUT];
+    let mut lent = [Lent::new(), Lent::new(), Lent::new(), Lent::new()];
+    let mut out = [0u8; ROOM];
+    let input = read_full(&mut rt.stdin(), input.as_mut_slice());
+    let tally = take_lines(&rt, input, &mut lent, &mut out);
+    let _ = println!(rt; "{tally}");
 }

@@ -1,97 +1,141 @@
-// Each line counted by its act and by what became of it, and what is said.
-use super::judge::{RIGHT, WAITS, verdict};
-use super::questions::{NAMES, act_of};
-use super::text::{part, word};
-use formula::bytes::small_at;
+// Each line counted by its act and by what became of it.
+use super::act::Act;
+use super::judge::Verdict;
+use super::question::NoQuestion;
+use std::fmt;
 
-// A row for each name, with a cell for each of these but the last, and behind the rows a cell for the number of lines. What
-// stands from `missed` on is wrong.
-const COLUMNS: [u8; 95] =
-    *b"right not-asked found planted-not-asked missed differs changed-byte blind-byte unreadable lines";
+// What became of a line.
+#[derive(Clone, Copy, Debug, PartialEq, Eq)]
+pub enum Fate {
+    Right,
+    NotAsked,
+    // One that is planted must be found wrong.
+    Found,
+    PlantedNotAsked,
+    // One of these is wrong.
+    Missed,
+    Differs,
+    ChangedByte,
+    BlindByte,
+    Unreadable,
+}
 
-// One more in a cell, and how many it then has; no run comes to the limit.
-fn count(counts: &mut [u64], i: usize) -> u64 {
-    if i < counts.len() {
-        let n = counts[i];
-        if n < 1000000000 {
-            counts[i] = n + 1;
-            return n + 1;
+impl Fate {
+    const ALL: [Fate; 9] = [
+        Fate::Right,
+        Fate::NotAsked,
+        Fate::Found,
+        Fate::PlantedNotAsked,
+        Fate::Missed,
+        Fate::Differs,
+        Fate::ChangedByte,
+        Fate::BlindByte,
+        Fate::Unreadable,
+    ];
+
+    pub fn new(planted: bool, verdict: Result<Verdict, NoQuestion>) -> Fate {
+        match verdict {
+            Ok(Verdict::Right) if planted => Fate::Missed,
+            Ok(Verdict::NotAsked) if planted => Fate::PlantedNotAsked,
+            _ if planted => Fate::Found,
+            Ok(Verdict::Right) => Fate::Right,
+            Ok(Verdict::NotAsked) => Fate::NotAsked,
+            Ok(Verdict::Differs) => Fate::Differs,
+            Ok(Verdict::ChangedByte) => Fate::ChangedByte,
+            Ok(Verdict::BlindByte) => Fate::BlindByte,
+            Err(NoQuestion) => Fate::Unreadable,
         }
     }
-    0
-}
 
-// A line is counted in its cell, in the last row, and among all lines; one that is not as it should be is said.
-pub fn settle(rt: &impl Print, counts: &mut [u64], cell: usize) {
-    count(counts, cell);
-    count(counts, 126 + cell % 9);
-    say_wrong(rt, count(counts, 135), cell % 9);
-}
-
-// Writes to standard output. A write that fails ends nothing: what else is said goes on.
-pub fn say(rt: &impl Print, text: &[u8]) {
-    let _ = rt.write_all(text);
-}
-
-fn say_number(rt: &impl Print, n: u64) {
-    let _ = rt.print(n);
-}
-
-fn say_wrong(rt: &impl Print, number: u64, column: usize) {
-    if column < 4 {
-        return;
-    }
-    say(rt, b"line ");
-    say_number(rt, number);
-    say_column(rt, column);
-    say(rt, b"\n");
-}
-
-fn say_column(rt: &impl Print, column: usize) {
-    let columns = COLUMNS;
-    say(rt, b" ");
-    say(rt, word(&columns, column));
-}
-
-// What became of a line, by the verdict. One that is planted must be found wrong.
-fn column_of(planted: bool, verdict: usize) -> usize {
-    if !planted {
-        return verdict;
-    }
-    match verdict {
-        RIGHT => 4,
-        WAITS => 3,
-        _ => 2,
+    pub fn is_wrong(self) -> bool {
+        !matches!(
+            self,
+            Fate::Right | Fate::NotAsked | Fate::Found | Fate::PlantedNotAsked
+        )
     }
 }
 
-// The cell of a line. A mark before it says that it is planted.
-pub fn cell_of(line: &[u8], work: &mut [u8], out: &mut [u8]) -> usize {
-    let planted = small_at(line, 0) == b'!';
-    let asked = part(line, planted as usize, line.len());
-    let act = act_of(asked);
-    let column = column_of(planted, verdict(act, asked, work, out));
-    act % 14 * 9 + column % 9
-}
-
-// A count that is not 0; the row's name is before the first.
-fn say_cell(rt: &impl Print, i: usize, n: u64) {
-    if i % 9 == 0 {
-        let names = NAMES;
-        say(rt, b"\n");
-        say(rt, word(&names, i / 9));
-    }
-    if 0 < n {
-        say_column(rt, i % 9 + i / 135 * 9);
-        say(rt, b"=");
-        say_number(rt, n);
+impl fmt::Display for Fate {
+    fn fmt<W: fmt::Write>(&self, f: &mut fmt::Formatter<W>) -> fmt::Result {
+        f.write_str(match self {
+            Fate::Right => "right",
+            Fate::NotAsked => "not-asked",
+            Fate::Found => "found",
+            Fate::PlantedNotAsked => "planted-not-asked",
+            Fate::Missed => "missed",
+            Fate::Differs => "differs",
+            Fate::ChangedByte => "changed-byte",
+            Fate::BlindByte => "blind-byte",
+            Fate::Unreadable => "unreadable",
+        })
     }
 }
 
-pub fn say_tally(rt: &impl Print, counts: &[u64]) {
-    let mut i = 0;
-    while i < counts.len() {
-        say_cell(rt, i, counts[i]);
-        i += 1;
+// How many lines had each fate.
+#[derive(Clone, Copy, Default)]
+struct Row {
+    counts: [u64; 9],
+}
+
+impl Row {
+    fn count(&mut self, fate: Fate) {
+        let n = &mut self.counts[fate as usize];
+        *n = n.saturating_add(1);
+    }
+}
+
+impl fmt::Display for Row {
+    fn fmt<W: fmt::Write>(&self, f: &mut fmt::Formatter<W>) -> fmt::Result {
+        for (fate, n) in Fate::ALL.iter().zip(&self.counts) {
+            write_count(f, fate, *n)?;
+        }
+        Ok(())
+    }
+}
+
+// A count that is not 0, behind its name.
+fn write_count<W: fmt::Write>(
+    f: &mut fmt::Formatter<W>,
+    name: impl fmt::Display + Drop,
+    n: u64,
+) -> fmt::Result {
+    if n == 0 {
+        return Ok(());
+    }
+    write!(f, " {name}={n}")
+}
+
+// A row for each act, for lines of no act and for all lines, and how many lines there are.
+#[derive(Default, Drop)]
+pub struct Tally {
+    acts: [Row; 13],
+    no_act: Row,
+    all: Row,
+    lines: u64,
+}
+
+impl Tally {
+    pub fn lines(&self) -> u64 {
+        self.lines
+    }
+
+    pub fn count(&mut self, act: Option<Act>, fate: Fate) {
+        match act {
+            Some(act) => self.acts[act as usize].count(fate),
+            None => self.no_act.count(fate),
+        }
+        self.all.count(fate);
+        self.lines = self.lines.saturating_add(1);
+    }
+}
+
+impl fmt::Display for Tally {
+    fn fmt<W: fmt::Write>(&self, f: &mut fmt::Formatter<W>) -> fmt::Result {
+        f.write_str("by act:")?;
+        for (act, row) in Act::ALL.iter().zip(&self.acts) {
+            write!(f, "\n{act}{row}")?;
+        }
+        write!(f, "\nno-act{}\nall{}\nfile", self.no_act, self.all)?;
+        write_count(f, "lines", self.lines)
     }
 }

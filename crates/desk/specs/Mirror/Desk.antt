@@ -1,14 +1,12 @@
 -- A sequent as the code holds it: its bytes, where each hypothesis stands, and the flags as two masks.
-use Rattle.std.specs.Prelude.{ℕ, zero, suc, ◌+◌, ◌*◌, ◌<◌, ◌≤◌, ◌⊎◌, ◌≡◌, List, [], ◌∷◌, ◌++◌, Bool, true, false, length, take, drop}
+use Rattle.std.specs.Prelude.{ℕ, zero, suc, ◌+◌, ◌*◌, ◌<◌, ◌≤◌, ◌≡◌, List, [], ◌∷◌, Bool, true, false, length, take, drop, Option, Some, None}
 use Rattle.formula.specs.Pick.{pick}
 use Rattle.formula.specs.Tree.{Tree, encode}
 pub use Rattle.formula.specs.Equal.{Range}
-use Rattle.desk.specs.Sequent.{Flag, plain, hidden, selected, Hypothesis, hypothesis, flagged, is_hidden, is_selected}
+use Rattle.desk.specs.Sequent.{Flag, plain, hidden, selected, Hypothesis, flagged, is_hidden, is_selected, present}
 use Rattle.formula.specs.Equal.{same}
 use Rattle.desk.specs.File.{hypotheses_bytes}
-use Rattle.desk.specs.declared.View.{View}
-use Rattle.desk.specs.declared.Appended.{Appended}
-use Rattle.desk.specs.declared.Appended.TheVariants as appended
+use Rattle.desk.specs.declared.view.View.{View}
 
 -- how a view is made
 abbrev pub view : ℕ → ℕ → ℕ → ℕ → ℕ → View
@@ -46,6 +44,10 @@ unfoldable pub index_of : List Hypothesis → Tree → ℕ
 index_of [] y = 0
 index_of (h ∷ hs) y = pick (same h.formula y) 0 (suc (index_of hs y))
 
+-- the same, if there is one
+abbrev pub position : List Hypothesis → Tree → Option ℕ
+position hs y = pick (present hs y) (Some (index_of hs y)) None
+
 abbrev pub flag_from : Bool → Bool → Flag
 flag_from true s = hidden
 flag_from false true = selected
@@ -62,20 +64,7 @@ flag_at [] i = plain
 flag_at (h ∷ hs) zero = h.flag
 flag_at (h ∷ hs) (suc i) = flag_at hs i
 
--- finding a formula among the hypotheses of the desk
-abbrev pub FindIs : List ℕ → List ℕ → ℕ → List ℕ → ℕ → ℕ → ℕ → Type 0
-FindIs desk places h x a e r = (v : View) (types : List ℕ) (hs : List Hypothesis) (y : Tree) → Holds desk places v types hs → v.hypotheses ≡ h → Range x a e y → r ≡ index_of hs y
-
 -- a flag set, by masks alone: what the desk holds otherwise does not change
 abbrev pub SetIs : View → ℕ → Bool → Bool → View → Type 0
 SetIs v i hid sel w =
     (desk places types : List ℕ) (hs : List Hypothesis) → Holds desk places v types hs → i < length hs → length hs ≤ 64 → Holds desk places w types (set_flag i (flag_from hid sel) hs)
-
--- one more hypothesis, or no room for it: over 64, or over 60,000 bytes
-abbrev pub AppendIs : List ℕ → List ℕ → View → List ℕ → ℕ → ℕ → Bool → Bool → List ℕ → List ℕ → Appended → Type 0
-AppendIs desk places v x a e hid sel desk' places' (appended.Done w) =
-    (types : List ℕ) (hs : List Hypothesis) (y : Tree) → Holds desk places v types hs → Range x a e y → length hs ≤ 64
-    → Holds desk' places' w types (hs ++ (hypothesis (flag_from hid sel) y ∷ [])) × (length hs < 64)
-AppendIs desk places v x a e hid sel desk' places' appended.NoRoom =
-    (types : List ℕ) (hs : List Hypothesis) (y : Tree) → Holds desk places v types hs → Range x a e y → length hs ≤ 64
-    → (64 ≤ length hs) ⊎ (60000 < v.end + 1 + length (encode y))

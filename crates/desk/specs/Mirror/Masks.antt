@@ -1,10 +1,10 @@
 -- Masks over the hypotheses, as the code keeps them: bit i for hypothesis i.
-use Rattle.std.specs.Prelude.{ℕ, ◌-◌, ◌/◌, ◌%◌, ◌^◌, ◌<◌, ◌≡◌, List, Bool, false, length, eqb, leb, ltb}
+use Rattle.std.specs.Prelude.{ℕ, ◌-◌, ◌/◌, ◌%◌, ◌^◌, ◌<◌, ◌≡◌, List, Bool, not, ◌&&◌, length, eqb, leb, ltb}
 use Rattle.std.specs.Int.Bits.{bit_or}
 use Rattle.formula.specs.Pick.{pick}
 use Rattle.desk.specs.Sequent.{Hypothesis, is_hidden, is_selected}
 use Rattle.desk.specs.Mirror.Desk.{Holds, flag_at, view}
-use Rattle.desk.specs.declared.View.{View}
+use Rattle.desk.specs.declared.view.View.{View}
 
 unfoldable pub bit_of : ℕ → ℕ → Bool
 bit_of m i = eqb (m / 2 ^ i % 2) 1
@@ -19,12 +19,9 @@ unfoldable pub put_bit : ℕ → ℕ → Bool → ℕ
 put_bit m i b = pick b (with_bit m i) (without_bit m i)
 
 -- a hidden hypothesis is not selected
-unfoldable pub selects : Bool → Bool → Bool
-selects hid sel = pick hid false sel
-
 unfoldable pub with_flag : View → ℕ → Bool → Bool → View
 with_flag v i hid sel =
-    view v.identifiers v.hypotheses v.end (put_bit v.hidden i hid) (put_bit v.selected i (selects hid sel))
+    view v.identifiers v.hypotheses v.end (put_bit v.hidden i hid) (put_bit v.selected i (not hid && sel))
 
 -- the flag byte of hypothesis i; there are at most 64
 unfoldable pub flag_byte_of : View → ℕ → ℕ

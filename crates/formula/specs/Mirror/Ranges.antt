@@ -1,4 +1,4 @@
--- Ranges of bytes compared, as the code does it.
+-- Ranges of bytes compared one by one.
 use Rattle.std.specs.Prelude.{ℕ, zero, suc, ◌+◌, ◌-◌, List, Bool, true, false, length, get_or, eqb, ltb}
 use Rattle.formula.specs.Pick.{pick}
 

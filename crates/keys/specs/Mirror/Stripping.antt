@@ -3,7 +3,7 @@ use Rattle.std.specs.Prelude.{ℕ, zero, suc, ◌+◌, List, Bool, not, eqb}
 use Rattle.formula.specs.Pick.{pick}
 use Rattle.formula.specs.Codes.{neg, fun_byte}
 use Rattle.formula.specs.Mirror.Bytes.{byte_at}
-use Rattle.keys.specs.declared.Bare.{Bare}
+use Rattle.keys.specs.declared.strip.Bare.{Bare}
 
 unfoldable pub strip_from : ℕ → List ℕ → ℕ → Bool → Bare
 strip_from zero s p b = record { at = p; value = b }

@@ -1,6 +1,7 @@
 -- One node as the code reads it: what is seen of it, whether it is refused, and why.
-use Rattle.std.specs.Prelude.{ℕ, ◌+◌, ◌-◌, List, Bool, true, length, leb, eqb}
-use Rattle.std.proofs.Math.Option.{Option, some, none}
+use Rattle.std.specs.Prelude.{ℕ, ◌+◌, ◌-◌, List, Bool, true, length, leb, eqb, Option, Some, None}
+use Rattle.std.proofs.Math.Option as maybe
+use Rattle.std.proofs.Math.Option.{some, none}
 use Rattle.std.specs.Int.Bits.{bit_and}
 use Rattle.formula.specs.Pick.{pick}
 use Rattle.formula.specs.NodeFault.{Fault, number_out, node_fault}
@@ -8,7 +9,7 @@ use Rattle.formula.specs.Mirror.PackedTable.{row_at, own, sort, number_in, count
 use Rattle.formula.specs.Mirror.Bytes.{byte_at, own_byte}
 use Rattle.refusal.specs.declared.Cause.TheVariants as cause
 use Rattle.refusal.specs.declared.Refusal.{Refusal}
-use Rattle.reader.specs.declared.Seen.{Seen}
+use Rattle.reader.specs.declared.node.Seen.{Seen}
 
 -- what the own bytes of a node say: where its operands are, how many, its type, its row, the variables it binds, its mark
 pub record Ops : Type 0 where
@@ -30,7 +31,7 @@ the_ops types at x n = record { next = at + own x + 1; count = count_of x n; ty 
 abbrev pub refusal : ℕ → Fault → Refusal
 refusal at f = record { cause = f.cause; at = at + f.offset }
 
-abbrev pub head_fault : ℕ → Option Fault → Head → Head
+abbrev pub head_fault : ℕ → maybe.Option Fault → Head → Head
 head_fault at none h = h
 head_fault at (some f) h = faulty (refusal at f)
 
@@ -41,7 +42,7 @@ head_row len types end d level want at x n =
     (fine (the_ops types at x n))
 
 -- the refusal of a node of which it is known that something is wrong: what is left in the end is 9, too long
-abbrev pub refusal_by : ℕ → Option Fault → Refusal
+abbrev pub refusal_by : ℕ → maybe.Option Fault → Refusal
 refusal_by at none = record { cause = cause.Long; at = at }
 refusal_by at (some f) = refusal at f
 
@@ -63,7 +64,7 @@ head_at s types end d level want at =
 unfoldable pub seen_at : List ℕ → List ℕ → ℕ → Seen
 seen_at s types at =
     record {
-      row = row_at (byte_at s at);
+      row = record { 0 = row_at (byte_at s at) };
       byte = own_byte (row_at (byte_at s at)) s (at + 1);
       ty = type_by (row_at (byte_at s at)) types (own_byte (row_at (byte_at s at)) s (at + 1));
     }
@@ -73,8 +74,8 @@ unfoldable pub refused_here : ℕ → ℕ → ℕ → ℕ → ℕ → ℕ → �
 refused_here t end d want at x n =
     pick (leb end (at + own x)) true (pick (eqb (bit_and want (sort x)) 0) true (number_out (number_in x) n t d))
 
--- the kind of the identifier at `at`, where one stands that may stand here; else 0
-unfoldable pub name_at : List ℕ → List ℕ → ℕ → ℕ → ℕ → ℕ
+-- the kind of the identifier at `at`, where one stands that may stand here
+unfoldable pub name_at : List ℕ → List ℕ → ℕ → ℕ → ℕ → Option ℕ
 name_at s types end want at =
-    pick (leb end (at + 1)) 0
-    (pick (eqb (byte_at s at) 32) (pick (eqb (bit_and want (ident_type types (byte_at s (at + 1)))) 0) 0 (ident_type types (byte_at s (at + 1)))) 0)
+    pick (leb end (at + 1)) None
+    (pick (eqb (byte_at s at) 32) (pick (eqb (bit_and want (ident_type types (byte_at s (at + 1)))) 0) None (Some (ident_type types (byte_at s (at + 1))))) None)

@@ -1,17 +1,15 @@
--- What the functions over whole buffers answer: a sequent opened, a formula or a list lent, and the sequent written.
+-- A sequent opened in place, and what is said of a buffer that is refused.
 use Rattle.std.specs.Prelude.{ℕ, ◌≡◌, List, length, drop}
 use Rattle.refusal.specs.Refusal.{said_of}
+use Rattle.refusal.specs.declared.Said.{Said}
+use Rattle.refusal.specs.declared.Refusal.{Refusal}
 use Rattle.formula.specs.Reading.{Parsed, got, not_got}
 use Rattle.formula.specs.Tree.{encode}
-use Rattle.refusal.specs.declared.Said.{Said}
 use Rattle.desk.specs.Sequent.{Sequent}
 use Rattle.desk.specs.Mirror.Desk.{Holds}
-use Rattle.desk.specs.declared.View.{View}
+use Rattle.desk.specs.declared.view.View.{View}
 use Rattle.sequent.specs.Accepted.{AcceptedSequent}
 use Rattle.sequent.specs.ReadFile.{read_sequent}
-use Rattle.refusal.specs.declared.Refusal.{Refusal}
-use Rattle.sequent.specs.declared.Opened.{Opened}
-use Rattle.sequent.specs.declared.Opened.TheVariants as opened
 
 -- a sequent opened in place: the goal stands from v.end to the end of the file
 pub record Open (s places : List ℕ) (v : View) : Type 0 where
@@ -27,7 +25,3 @@ pub record Not {A : Type 0} (b : List ℕ) (r : Parsed A) (z : Said) : Type 0 wh
   pub refusal : Refusal
   pub refused_is : r ≡ not_got refusal.cause refusal.at
   pub said_is : z ≡ said_of refusal (length b)
-
-abbrev pub OpenedIs : List ℕ → List ℕ → Opened → Type 0
-OpenedIs s places (opened.Read v) = Open s places v
-OpenedIs s places (opened.Refused z) = Not s (read_sequent s) z

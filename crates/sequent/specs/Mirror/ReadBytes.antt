@@ -1,78 +1,71 @@
--- What the functions of the file reader answer, on bytes and places; and what they leave in the places.
-use Rattle.std.specs.Prelude.{ℕ, ◌+◌, ◌≡◌, List, [], length, get_or, drop, ltb, leb, eqb}
+-- What the functions of the file reader answer: each part of the file, and where hypotheses stand.
+use Rattle.std.specs.Prelude.{ℕ, ◌+◌, ◌≤◌, ◌≡◌, List, [], length, get_or, take, drop, slice_range, is_some, ltb, leb, eqb, Result, Ok, Err}
 use Rattle.refusal.specs.Refusal.{refused}
-use Rattle.formula.specs.Reading.{Parsed, got, not_got, on_got}
-use Rattle.formula.specs.Pick.{pick}
-use Rattle.formula.specs.Tree.{encode}
-use Rattle.desk.specs.Sequent.{Hypothesis, Sequent, sequent_of}
-use Rattle.sequent.specs.ReadFile.{predicate_at, hypotheses_at, read_sequent}
-use Rattle.sequent.specs.ReadFile.{to_end}
-use Rattle.desk.specs.Mirror.Desk.{Holds, view}
-use Rattle.sequent.specs.Mirror.Opened.{Open}
-use Rattle.desk.specs.Mirror.Bytes.{find_at}
-use Rattle.desk.specs.Mirror.Masks.{with_bit}
 use Rattle.refusal.specs.declared.Cause.TheVariants as cause
-use Rattle.desk.specs.declared.View.{View}
-use Rattle.sequent.specs.declared.Checked.{Checked}
-use Rattle.sequent.specs.declared.Checked.TheVariants as checked
-use Rattle.formula.specs.declared.Reading.{Reading}
-use Rattle.formula.specs.declared.Reading.TheVariants as reading
-use Rattle.sequent.specs.declared.HypothesisRead.{HypothesisRead}
-use Rattle.sequent.specs.declared.HypothesisRead.TheVariants as item
-use Rattle.sequent.specs.declared.SequentRead.{SequentRead}
-use Rattle.sequent.specs.declared.SequentRead.TheVariants as stage
+use Rattle.refusal.specs.declared.Refusal.{Refusal}
+use Rattle.formula.specs.Reading.{Parsed, got, not_got, on_got}
+use Rattle.formula.specs.Formula.{read_formula}
+use Rattle.formula.specs.Pick.{pick}
+use Rattle.formula.specs.declared.Sort.TheVariants as sort
+use Rattle.desk.specs.Sequent.{Hypothesis, Sequent, sequent_of}
+use Rattle.desk.specs.Mirror.Desk.{Holds}
+use Rattle.desk.specs.Mirror.Bytes.{find_in}
+use Rattle.desk.specs.Mirror.Masks.{with_flag}
+use Rattle.desk.specs.declared.hypotheses.Hypotheses.{Hypotheses}
+use Rattle.desk.specs.declared.view.View.{View}
+use Rattle.sequent.specs.ReadFile.{predicate_at, to_end, hypotheses_at, read_sequent}
+use Rattle.sequent.specs.Mirror.Opened.{Open}
+use Rattle.sequent.specs.declared.Opened.{Opened}
 
--- only whether something was seen, or only where it ends
-abbrev pub check_of : {A : Type 0} → Parsed A → Checked
-check_of (got a p) = checked.Fine
-check_of (not_got w p) = checked.Stopped (refused w p)
+-- only whether something was seen
+abbrev pub check_of : {A : Type 0} → Parsed A → Result (Unit {0}) Refusal
+check_of (got a p) = Ok tt
+check_of (not_got w p) = Err (refused w p)
 
-abbrev pub end_of : {A : Type 0} → Parsed A → Reading
-end_of (got a p) = reading.Read p
-end_of (not_got w p) = reading.Refused (refused w p)
-
--- ---- a hypothesis, after those that stand at their places
-abbrev pub unless_twice : List ℕ → List ℕ → ℕ → ℕ → Reading → HypothesisRead
-unless_twice s places i p (reading.Refused x) = item.Stopped x
-unless_twice s places i p (reading.Read e) = pick (ltb (find_at s places i s (p + 1) e) i) (item.Stopped (refused cause.Twice (p + 1))) (item.Read (get_or s p 0) e)
+-- ---- a hypothesis, after those that stand: its flag byte and its end
+abbrev pub unless_twice : Hypotheses → Result ℕ Refusal → Result (ℕ × ℕ) Refusal
+unless_twice h (Err x) = Err x
+unless_twice h (Ok e) =
+    pick (is_some (find_in h (slice_range h.bytes.now (h.view.end + 1) e))) (Err (refused cause.Twice (h.view.end + 1))) (Ok (get_or h.bytes.now h.view.end 0, e))
 
 -- the flag, the formula, then 10
-unfoldable pub item_at : List ℕ → List ℕ → List ℕ → ℕ → ℕ → HypothesisRead
-item_at s types places i p =
-    pick (leb (length s) p) (item.Stopped (refused cause.Length p))
-    (pick (ltb 2 (get_or s p 0)) (item.Stopped (refused cause.FlagByte p))
-    (unless_twice s places i p (end_of (predicate_at s types (p + 1)))))
+unfoldable pub item_at : Hypotheses → List ℕ → Result (ℕ × ℕ) Refusal
+item_at h types =
+    pick (leb (length h.bytes.now) h.view.end) (Err (refused cause.Length h.view.end))
+    (pick (ltb 2 (get_or h.bytes.now h.view.end 0)) (Err (refused cause.FlagByte h.view.end))
+    (unless_twice h (read_formula h.bytes.now types sort.Predicate (h.view.end + 1))))
 
 -- one more hypothesis, with this flag byte and this end
 abbrev pub with_hypothesis : View → ℕ → ℕ → View
-with_hypothesis v b e =
-    view v.identifiers (v.hypotheses + 1) e
-    (pick (eqb b 1) (with_bit v.hidden v.hypotheses) v.hidden)
-    (pick (eqb b 2) (with_bit v.selected v.hypotheses) v.selected)
+with_hypothesis v b e = record (with_flag v v.hypotheses (eqb b 1) (eqb b 2)) { hypotheses = v.hypotheses + 1; end = e }
 
--- ---- what is read and left in the places, or why not
-unfoldable pub HypothesesAre : List ℕ → List ℕ → ℕ → List ℕ → SequentRead → Type 0
-HypothesesAre s types h places (stage.Read v) =
-    (hs : List Hypothesis) × (hypotheses_at s types h [] (8 + length types) ≡ got hs v.end) × Holds s places v types hs
-HypothesesAre s types h places (stage.Stopped x) = hypotheses_at s types h [] (8 + length types) ≡ not_got x.cause x.at
+-- ---- the hypotheses that are read, and where they stand; or why not
+pub record HypothesesSeen (s types : List ℕ) (h : ℕ) (seen : View × List ℕ) : Type 0 where
+  pub hypotheses : List Hypothesis
+  pub seen_is : hypotheses_at s types h [] (8 + length types) ≡ got hypotheses seen.0.end
+  pub held : Holds s seen.1 seen.0 types hypotheses
 
--- the hypotheses and the goal, and nothing after it
+abbrev pub HypothesesRefused : List ℕ → List ℕ → ℕ → Refusal → Type 0
+HypothesesRefused s types h x = hypotheses_at s types h [] (8 + length types) ≡ not_got x.cause x.at
+
+-- ---- the file
+-- what follows the type bytes: h hypotheses, the goal, and nothing after it
 unfoldable pub rest_at : List ℕ → List ℕ → ℕ → Parsed Sequent
 rest_at s types h =
     on_got (hypotheses_at s types h [] (8 + length types)) (λ hs q. on_got (to_end s (predicate_at s types q)) (λ goal e. got (sequent_of types hs goal) e))
 
--- a sequent was seen, it stands in its places, and its goal stands after them
-pub record SequentStands (s places : List ℕ) (v : View) (r : Parsed Sequent) : Type 0 where
-  pub sequent : Sequent
-  pub at_end : ℕ
-  pub seen_is : r ≡ got sequent at_end
-  pub held : Holds s places v sequent.types sequent.hypotheses
-  pub goal_there : drop v.end s ≡ encode sequent.goal
+-- the header is fine, and the types are the bytes after it
+pub record TypesSeen (s types : List ℕ) : Type 0 where
+  pub inside : 8 + length types ≤ length s
+  pub stand : take (length types) (drop 8 s) ≡ types
+  pub few : get_or s 6 0 ≤ 64
+  pub seen_is : read_sequent s ≡ rest_at s types (get_or s 6 0)
 
-unfoldable pub StageIs : List ℕ → List ℕ → Parsed Sequent → SequentRead → Type 0
-StageIs s places r (stage.Read v) = SequentStands s places v r
-StageIs s places r (stage.Stopped x) = r ≡ not_got x.cause x.at
+-- a sequent opened in these bytes
+pub record Opens (s : List ℕ) (o : Opened) : Type 0 where
+  pub bytes_are : o.bytes.now ≡ s
+  pub is_open : Open s o.places o.view
 
-unfoldable pub WholeIs : List ℕ → List ℕ → SequentRead → Type 0
-WholeIs s places (stage.Read v) = Open s places v
-WholeIs s places (stage.Stopped x) = read_sequent s ≡ not_got x.cause x.at
+-- it is not read, for this
+abbrev pub Refuses : List ℕ → Refusal → Type 0
+Refuses s x = read_sequent s ≡ not_got x.cause x.at

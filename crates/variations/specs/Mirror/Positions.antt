@@ -7,11 +7,10 @@ use Rattle.formula.specs.Equal.{Range}
 use Rattle.formula.specs.declared.Sort.TheVariants as sort
 use Rattle.keys.specs.Substitutes.{candidates, substitutes}
 use Rattle.keys.specs.declared.Part.{Part}
-use Rattle.keys.specs.declared.Source.{Source}
-use Rattle.keys.specs.declared.Asked.{Asked}
-use Rattle.variations.specs.Answers.{answer, first_for, AskedOf}
+use Rattle.keys.specs.declared.rows.Source.{Source}
+use Rattle.keys.specs.declared.rows.Asked.{Asked}
+use Rattle.variations.specs.Answers.{Answer, answer, first_for, AskedOf}
 use Rattle.variations.specs.Mirror.SourceBytes.{source_at}
-use Rattle.variations.specs.declared.Keyed.{Keyed}
 
 -- r was made of the predicate x, which stands in s
 pub record SourceOf (s types : List ℕ) (starts : Bool) (x : Tree) (r : Source) : Type 0 where
@@ -25,9 +24,9 @@ abbrev pub SourceIs : List ℕ → List ℕ → Part → Bool → Source → Typ
 SourceIs s types w starts r = (x : Tree) → Formula types sort.Predicate x → Range s w.at w.end x → SourceOf s types starts x r
 
 -- the answer of the position k is that of the source's k-th entry
-abbrev pub KeyIs : List ℕ → Source → ℕ → List ℕ → Asked → Keyed → Type 0
+abbrev pub KeyIs : List ℕ → Source → ℕ → List ℕ → Asked → Answer → Type 0
 KeyIs s r k t a z = (types : List ℕ) (starts : Bool) (x y : Tree) → SourceOf s types starts x r → AskedOf t y a → z ≡ answer (at (candidates types starts x) k) y
 
 -- the answer of the source is that of its first entry for the predicate
-abbrev pub FirstIs : List ℕ → Source → List ℕ → Asked → Keyed → Type 0
+abbrev pub FirstIs : List ℕ → Source → List ℕ → Asked → Answer → Type 0
 FirstIs s r t a z = (types : List ℕ) (starts : Bool) (x y : Tree) → SourceOf s types starts x r → AskedOf t y a → z ≡ first_for (substitutes types starts x) y

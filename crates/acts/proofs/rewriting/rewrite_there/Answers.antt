@@ -1,10 +1,12 @@
 use Rattle.acts.proofs.RewriteLaws.{there_full, there_done}
 use Rattle.acts.proofs.rewriting.rewrite_there.Goals as goal
 
-pub returns-in-NoRoom : goal.returns-in-NoRoom
-returns-in-NoRoom c =
-    there_full _ _ _ _ c.requires.opened c.lay.ensures.laid_is _ _ _ _ _ _ _ _ c.infer_all-r.ensures.infer_all_is _ _ c.in-NoRoom.is c.act_said.ensures
+pub returns-in_err-again : goal.returns-in_err-again
+returns-in_err-again c =
+    let h = c.hypotheses.ensures in
+    there_full _ _ _ _ c.hypotheses.result h.bytes h.places h.view _ c.lay.ensures _ _ _ _ c.in_err-again.ensures c.from_residual.ensures.1
 
-pub returns-in-Done : goal.returns-in-Done
-returns-in-Done c =
-    there_done _ _ _ _ c.requires.opened c.lay.ensures.laid_is _ _ _ _ _ _ _ _ c.infer_all-r.ensures.infer_all_is _ _ _ _ _ c.in-Done.is c.rewrite_hide.ensures
+pub returns : goal.returns
+returns c =
+    let h = c.hypotheses.ensures in
+    there_done _ _ _ _ c.hypotheses.result h.bytes h.places h.view _ c.lay.ensures _ _ _ _ _ c.in_ok-again.ensures c.rewrite_hide.ensures

@@ -1,7 +1,0 @@
-use Rattle.desk.proofs.MaskLaws.{masks}
-use borrow.Author.Rules.{rules}
-use Rattle.desk.proofs.mask.with_bit.Statement.{statement}
-use Rattle.desk.proofs.mask.with_bit.Tie as tie
-
-pub with_bit_spec : {M : Type 1} → statement M
-with_bit_spec = tie.close (tie.spec (λ c. search rules) (λ c. search (rules, masks) depth 7))

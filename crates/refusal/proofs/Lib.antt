@@ -1,2 +1,0 @@
--- RefusalLaws: the cases of the place, and of what is said.
-pub mod RefusalLaws

@@ -1,7 +1,0 @@
-use Rattle.variations.proofs.Laws.{numbers}
-use borrow.Author.Rules.{rules}
-use Rattle.variations.proofs.sources.member_number.Statement.{statement}
-use Rattle.variations.proofs.sources.member_number.Tie as tie
-
-pub member_number_spec : {M : Type 1} → statement M
-member_number_spec = tie.close (tie.spec (λ c. search (rules, numbers) depth 7) (λ c. search (rules, numbers) depth 7) (λ c. search (rules, numbers) depth 7))

@@ -1,8 +1,0 @@
-use mathlib.Core.Path.{sym}
-use Prim.Native.Nat.{ℕ}
-use lib.ListN.{length-replicate}
-use Rattle.vectors.proofs.room.Statement.{statement}
-use Rattle.vectors.proofs.room.Tie as tie
-
-pub room_spec : {M : Type 1} → statement M
-room_spec = tie.close (tie.spec (λ c. sym (length-replicate {A = ℕ} 66064 0)))
