@@ -3,9 +3,9 @@
 // buffers stay loose parameters, as C lends them, and the four acts on a flag have names of their own, as in document 01 and in C.
 #![tactic(auto)]
 
-mod flags;
-mod modifying;
-mod rewriting;
+pub mod flags;
+pub mod modifying;
+pub mod rewriting;
 
 ghost use Rattle.std.specs.Prelude.{◌≡◌, length};
 ghost use Rattle.buffers.specs.Outcome.{answer_of, written};

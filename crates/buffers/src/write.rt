@@ -5,6 +5,7 @@ ghost use Rattle.buffers.specs.Mirror.WriteBytes.{Fitting, low_byte, with_header
 
 use super::Done;
 use desk::{Hypotheses, View};
+use formula::bytes::copy;
 use refusal::{Cause, Said};
 
 // Whether the goal fits after the hypotheses: in 60,000 bytes, and in `room`.
@@ -36,7 +37,7 @@ fn put_header(out: &mut [u8], v: View)
     let h = low_byte(v.hypotheses);
     let header = [b'S', b'Q', b'T', 1, 0, t, h, 0];
     let n = out.len().min(header.len());
-    out[..n].copy_from_slice(&header[..n]);
+    copy(&header[..n], &mut out[..n]);
 }
 
 // The flag byte of each hypothesis, from the masks.
@@ -60,10 +61,10 @@ fn put_file(h: Hypotheses, goal: &[u8], out: &mut [u8]) -> usize
 {
     let end = h.view.end;
     let len = end + goal.len();
-    out[..end].copy_from_slice(&h.bytes[..end]);
+    copy(&h.bytes[..end], &mut out[..end]);
     put_header(out, h.view);
     put_flags(out, h);
-    out[end..len].copy_from_slice(goal);
+    copy(goal, &mut out[end..len]);
     len
 }
 

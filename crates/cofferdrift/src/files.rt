@@ -79,14 +79,19 @@ pub fn fill<'a>(file: &mut impl Read, room: &'a mut [u8]) -> &'a [u8]
     front(room, left)
 }
 
-// How many bytes are left of a file: nothing says that it ends, so the reads are counted.
+// How many bytes are left of a file: nothing says that it ends, so the reads are counted. What is read between two ends of the
+// file, or in 4,096 bytes, is a part; an empty one ends it: a terminal goes on after an end.
 pub fn count_rest(file: &mut impl Read) -> usize {
     let mut chunk = [0u8; 4096];
-    let mut rest = 0usize;
+    let (mut rest, mut part) = (0usize, 0usize);
     for _ in 0..1u64 << 32 {
         match file.read(&mut chunk) {
-            Ok(0) | Err(_) => break,
-            Ok(n) => rest = rest.saturating_add(n),
+            Ok(n) if n > 0 => {
+                rest = rest.saturating_add(n);
+                part = part.saturating_add(n) % 4096;
+            }
+            _ if part == 0 => break,
+            _ => part = 0,
         }
     }
     rest

@@ -1,5 +1,5 @@
 // A request: its words parsed, its files read, the proved function asked, its result stored.
-ghost use Rattle.std.specs.Prelude.{◌≤◌};
+ghost use Rattle.std.specs.Prelude.{◌≤◌, length, IfOk};
 
 use super::files;
 use super::words::{Answer, Fault, Misuse};
@@ -110,7 +110,9 @@ fn requested(rt: &impl Env) -> Result<Request, Misuse> {
 }
 
 // The sequent that argument 2 names. One longer than its room has over 60,000 bytes: its length is refused.
-fn load_sequent<'a>(rt: &impl Runtime, room: &'a mut [u8]) -> Result<&'a [u8], Fault> {
+fn load_sequent<'a>(rt: &impl Runtime, room: &'a mut [u8]) -> Result<&'a [u8], Fault>
+    ensures { IfOk result (λ s. length s.now ≤ length room.old) }
+{
     let mut file = files::open(rt, 2).map_err(|_| Misuse::SequentUnreadable)?;
     let s = files::fill(&mut file, room);
     let more = files::count_rest(&mut file);
@@ -131,20 +133,28 @@ fn load_lent<'a>(
     act: Act,
     i: usize,
     room: &'a mut [u8],
-) -> Result<&'a [u8], Fault> {
+) -> Result<&'a [u8], Fault>
+    ensures { IfOk result (λ s. length s.now ≤ length room.old) }
+{
     if i >= act.lent() {
         return Ok(&[]);
     }
     let mut file = files::open(rt, 3 + i).map_err(|_| Misuse::LentUnreadable)?;
-    Ok(files::fill(&mut file, room))
+    let s = files::fill(&mut file, room);
+    // What is left is read too: who writes into a pipe writes all of it.
+    let _ = files::count_rest(&mut file);
+    Ok(s)
 }
 
+// Not inlined, as `change`: the rooms of a request take no stack of another.
+#[inline(never)]
 fn read(rt: &impl Runtime) -> Result<Answer, Fault> {
     let mut room = [0u8; LENT];
     let s = load_sequent(rt, &mut room)?;
     Ok(Answer::Read(sequent::read(s)?))
 }
 
+#[inline(never)]
 fn change(rt: &impl Runtime, act: Act) -> Result<Answer, Fault> {
     let mut room = [0u8; LENT];
     let s = load_sequent(rt, &mut room)?;

@@ -1,29 +1,27 @@
 -- The cases of the desk's code.
 use Prim.Native.Nat.{ℕ, suc, ◌+◌, ◌-◌, ◌<◌, ◌≤◌}
-use mathlib.Core.Path.{◌≡◌, ap, ◌∙◌}
+use mathlib.Core.Path.{◌≡◌, refl, ap, ◌∙◌}
 use mathlib.Core.Bool.{Bool, true, false}
 use mathlib.Core.List.{List, [], ◌∷◌}
 use native.Mathlib.Nat.{sub-zero}
 use native.Mathlib.Omega.{arith}
 use lib.ListN.{length, get_or}
 use lib.Seq.{take-length}
-use lib.Dec.{eqb}
-use lib.Pointwise.{pointwise}
 use borrow.Author.Tests.{le-leb, lt-leb}
 use Rattle.std.specs.List.{between}
 use Rattle.std.specs.Prelude.{slice_range, Option, Some, None}
-use Rattle.formula.proofs.RangeLaws.{same_bytes_by}
+use Rattle.formula.specs.Equal.{same_bytes}
 use Rattle.desk.specs.Mirror.Bytes.{after_flag, has_formula, find_from, find_in}
 use Rattle.desk.specs.declared.hypotheses.Hypotheses.{Hypotheses}
 
 -- the bytes after the first one
-after_first : (y x : List ℕ) → 1 ≤ length y → pointwise eqb (between 1 (length y) y) x ≡ after_flag y x
+after_first : (y x : List ℕ) → 1 ≤ length y → same_bytes (between 1 (length y) y) x ≡ after_flag y x
 after_first [] x h = absurd (omega arith)
 after_first (flag ∷ y) x h =
     let e : suc (length y) - 1 ≡ length y = omega arith in
-    rw (e, take-length y) (same_bytes_by y x)
+    rw (e, take-length y) refl
 
-pub has_hit : (bytes : List ℕ) (p q : ℕ) (x y : List ℕ) (r : Bool) → p ≤ q → q ≤ length bytes → y ≡ slice_range bytes p q → 1 ≤ length y → r ≡ pointwise eqb (between 1 (length y) y) x → r ≡ has_formula bytes p q x
+pub has_hit : (bytes : List ℕ) (p q : ℕ) (x y : List ℕ) (r : Bool) → p ≤ q → q ≤ length bytes → y ≡ slice_range bytes p q → 1 ≤ length y → r ≡ same_bytes (between 1 (length y) y) x → r ≡ has_formula bytes p q x
 unfolding has_formula
 has_hit bytes p q x y r h k y≡ n r≡ = simp (le-leb p q h, le-leb q (length bytes) k) (rw (← y≡) (r≡ ∙ after_first y x n))
 

@@ -1,5 +1,5 @@
 -- What the desk holds depends on no more than its bytes up to the end of the hypotheses.
-use Prim.Native.Nat.{ℕ, zero, suc, ◌+◌, min, ◌≤◌}
+use Prim.Native.Nat.{ℕ, zero, suc, ◌+◌, ◌≤◌}
 use mathlib.Core.Path.{◌≡◌, refl, sym, ap, ◌∙◌}
 use mathlib.Core.List.{List, [], ◌∷◌, ◌++◌}
 use native.Mathlib.Omega.{arith}

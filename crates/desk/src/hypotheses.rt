@@ -1,5 +1,6 @@
 // Hypotheses as they stand in some bytes, an opened file's or the desk's.
 use super::View;
+use formula::equal::same;
 
 #[derive(Clone, Copy)]
 pub struct Hypotheses<'a> {
@@ -20,7 +21,7 @@ impl<'a> Hypotheses<'a> {
         ensures { result ≡ has_formula self.entry.bytes.now (get_or self.entry.places.now i 0) (get_or self.entry.places.now (i + 1) 0) formula.now }
     {
         match self.bytes.get(self.places[i]..self.places[i + 1]) {
-            Some([_, found @ ..]) => found == formula,
+            Some([_, found @ ..]) => same(found, formula),
             _ => false,
         }
     }

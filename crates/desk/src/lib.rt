@@ -4,7 +4,7 @@
 
 pub mod hypotheses;
 pub mod list;
-mod mask;
+pub mod mask;
 pub mod view;
 
 ghost use Rattle.std.specs.Prelude.{◌≡◌, OnErr};
@@ -12,6 +12,7 @@ ghost use Rattle.refusal.specs.Refusal.{act_said};
 ghost use Rattle.refusal.specs.declared.Cause.TheVariants.{Room};
 ghost use Rattle.desk.specs.Mirror.Bytes.{LaidIs, AppendIs};
 
+use formula::bytes::copy;
 pub use hypotheses::Hypotheses;
 pub use list::List;
 use refusal::{Cause, Said};
@@ -48,7 +49,7 @@ impl Desk {
         self.places = *h.places;
         self.view = h.view;
         if end <= h.bytes.len() && end <= 60000 {
-            self.bytes[..end].copy_from_slice(&h.bytes[..end]);
+            copy(&h.bytes[..end], &mut self.bytes[..end]);
         }
     }
 
@@ -76,7 +77,7 @@ impl Desk {
             return Err(NoRoom);
         }
         let next = end + 1 + formula.len();
-        self.bytes[end + 1..next].copy_from_slice(formula);
+        copy(formula, &mut self.bytes[end + 1..next]);
         self.places[h + 1] = next;
         self.view = self.view.grown(formula.len(), hidden, selected);
         Ok(())

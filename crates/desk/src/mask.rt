@@ -32,7 +32,7 @@ pub fn without_bit(m: u64, i: usize) -> u64
 
 // The mask with hypothesis i if `on`, else without it.
 #[tactic(auto, unfolding(crate::specs::Mirror::Masks::put_bit))]
-pub fn put_bit(m: u64, i: usize, on: bool) -> u64
+pub(crate) fn put_bit(m: u64, i: usize, on: bool) -> u64
     requires { i < 64 }
     ensures { result ≡ put_bit m i on }
 {
@@ -44,7 +44,7 @@ pub fn put_bit(m: u64, i: usize, on: bool) -> u64
 }
 
 // The mask of the first n hypotheses.
-pub fn first_bits(n: usize) -> u64
+pub(crate) fn first_bits(n: usize) -> u64
     requires { n ≤ 64 }
     ensures { result ≡ 2 ^ n - 1 }
 {

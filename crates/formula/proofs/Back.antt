@@ -13,7 +13,7 @@ use Rattle.formula.specs.Pick.{pick}
 use Rattle.formula.specs.Codes.{Code, byte_of, code_at, with_number}
 use Rattle.formula.specs.NodeTable.{row_of, width, own_length, operands, sort_of_kinds, sort_of_rest}
 use Rattle.formula.specs.Tree.{Tree, node, Trees, ◌▹◌, size, number_of, number_bytes, encode, encodes}
-use Rattle.formula.specs.Formed.{inner, Formed}
+use Rattle.formula.specs.Formed.{inner, Formed, AllFormed}
 use Rattle.formula.specs.Reading.{Parsed, got, not_got, on_fault, on_got, number_at, own_bytes, node_at, operands_by, node_by, formula_at}
 use Rattle.refusal.specs.declared.Cause.{Cause}
 use Rattle.formula.specs.declared.Sort.{Sort}
@@ -22,7 +22,7 @@ use Rattle.formula.proofs.FaultLaws.{no_fault}
 use Rattle.formula.proofs.Places.{AllBytes, one_more}
 use Rattle.formula.proofs.Coded.{byte_is, same_byte, same_row}
 use Rattle.formula.proofs.Numbers.{carried_at, number_back, number_small, own_bytes_law, own_long, given_number}
-use Rattle.formula.proofs.Shaped.{Tested, Shaped, AllShaped, WordsIn, AllWordsIn, formed}
+use Rattle.formula.proofs.Shaped.{Tested, Shaped, AllShaped, WordsIn, AllWordsIn, formed, all_formed}
 
 -- ---- P holds of what is got, if anything is; a rule for each step of reading, of a formula and of a file
 abbrev pub OfGot : {A : Type 0} → (A → ℕ → Type 0) → Parsed A → Type 0
@@ -189,3 +189,13 @@ module _ (s : List ℕ) (t limit : ℕ) where
     -- of bytes: formed, and its bytes stand there
     pub read_is : AllBytes s → Formed l t d σ x × (drop at s ≡ encode x ++ drop q s)
     read_is B = (formed x l t d σ read_formula.shaped (read_formula.words_in B), read_formula.stands B)
+
+  module _ (l d n : ℕ) (σ ρ : Sort) (at : ℕ) (xs : Trees) (q : ℕ) (e : operands_by (formula_at s t limit l d) n σ ρ at ≡ got xs q) where
+    pub read_formulas : AreFormulas l d σ ρ at n xs q
+    read_formulas = subst (OfGot (AreFormulas l d σ ρ at n)) e (operands_read l d (formula_read l d) n σ ρ at)
+
+    pub all_read_ends : (q ≡ at + length (encodes xs)) × (at ≤ limit → q ≤ limit) × (at ≤ length s → q ≤ length s)
+    all_read_ends = (read_formulas.ends, read_formulas.in_limit, read_formulas.in_bytes)
+
+    pub all_read_are : AllBytes s → (size xs ≡ n) × AllFormed l t d σ ρ xs × (drop at s ≡ encodes xs ++ drop q s)
+    all_read_are B = (read_formulas.so_many, all_formed xs l t d σ ρ read_formulas.shaped (read_formulas.words_in B), read_formulas.stand B)

@@ -22,6 +22,10 @@ pub and_right : (a b : Bool) → (a && b) ≡ true → b ≡ true
 and_right true b e = e
 and_right false b e = never e
 
+pub or_pick : (a b : Bool) → pick a true b ≡ (a || b)
+or_pick true b = refl
+or_pick false b = refl
+
 -- two tests that answer alike
 abbrev pub agree : Bool → Bool → Bool
 agree true b = b

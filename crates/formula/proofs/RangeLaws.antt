@@ -1,16 +1,18 @@
 -- Two ranges of bytes: their test compares the bytes, and is equality of the formulas that stand there.
-use Prim.Native.Nat.{ℕ, ◌-◌, ◌≤◌}
+use Prim.Native.Nat.{ℕ, zero, suc, ◌-◌, ◌≤◌}
 use mathlib.Core.Path.{◌≡◌, refl, sym, ap, ◌∙◌}
 use mathlib.Core.Bool.{Bool, true, false}
 use mathlib.Core.List.{List, [], ◌∷◌}
 use native.Mathlib.Omega.{arith}
-use lib.ListN.{length, take, drop}
+use native.Mathlib.Nat.{sub-zero}
+use lib.ListN.{length, get_or, take, drop}
+use lib.Seq.{take-nil, slice, length-slice}
 use Rattle.std.proofs.Common.{length-take, length-drop}
 use Rattle.std.specs.Cmp.Lexicographic.{pointwise}
 use lib.Dec.{eqb}
 use borrow.Author.Tests.{le-ltb, eqb-true, eqb-false}
 use Rattle.formula.specs.Pick.{pick}
-use Rattle.formula.specs.Tree.{Tree}
+use Rattle.formula.specs.Tree.{Tree, encode}
 use Rattle.formula.specs.Equal.{same_bytes, same}
 use Rattle.formula.specs.Equal.{Range}
 use Rattle.formula.specs.Mirror.Ranges.{same_at, same_range}
@@ -51,3 +53,31 @@ module _ (x : List ℕ) (a e : ℕ) (y : List ℕ) (b f : ℕ) (h : a ≤ e) (k 
 pub ranges_same : (x : List ℕ) (a e : ℕ) (X : Tree) (R : Range x a e X) (y : List ℕ) (b f : ℕ) (Y : Tree) (S : Range y b f Y) → same_range x a e y b f ≡ same X Y
 unfolding same
 ranges_same x a e X R y b f Y S = ranges_are x a e y b f R.from_to R.inside S.from_to S.inside ∙ rw (R.bytes_are, S.bytes_are) refl
+
+-- ---- the formula in a range
+pub slice_is : (a e : ℕ) (x : List ℕ) → a ≤ e → slice a e x ≡ take (e - a) (drop a x)
+slice_is zero e x h = ap (λ (n : ℕ). take n x) (sym (sub-zero e))
+slice_is (suc a) zero x h = absurd (omega (arith, h))
+slice_is (suc a) (suc e) [] h = sym (take-nil (suc e - suc a))
+slice_is (suc a) (suc e) (b ∷ x) h = let k : e - a ≡ suc e - suc a = omega arith in slice_is a e x (omega arith) ∙ ap (λ (n : ℕ). take n (drop a x)) k
+
+-- a formula in a buffer: its bytes, and how many they are
+module _ (x : List ℕ) (a e : ℕ) (y : Tree) (R : Range x a e y) where
+  pub range_slice : slice a e x ≡ encode y
+  range_slice = slice_is a e x R.from_to ∙ R.bytes_are
+
+  pub range_count : length (encode y) ≡ e - a
+  range_count = ap length (sym range_slice) ∙ length-slice a e x R.inside
+
+-- ---- two formulas compared
+module _ (x y : List ℕ) where
+  pub same_by : (r : Bool) → r ≡ pointwise eqb x y → r ≡ same_bytes x y
+  same_by r e = e ∙ same_bytes_by x y
+
+  pub same_no : (length x ≡ length y → ⊥) → false ≡ same_bytes x y
+  same_no n = same_test false (same_bytes x y) never (λ e. absurd (n (ap length (same_bytes_is x y e))))
+
+  pub same_not_at : (i : ℕ) → (get_or x i 0 ≡ get_or y i 0 → ⊥) → false ≡ same_bytes x y
+  same_not_at i n = same_test false (same_bytes x y) never (λ e. absurd (n (ap (λ (z : List ℕ). get_or z i 0) (same_bytes_is x y e))))
+
+pub ruleset same_tests = (same_by, same_no, same_not_at)

@@ -1,5 +1,5 @@
-// A byte of a formula, 0 past its end: the clauses promise this 0, so it is no Option.
-ghost use Rattle.std.specs.Prelude.{◌≡◌, ℕ, ◌<◌};
+// A byte of a formula, 0 past its end: the clauses promise this 0, so it is no Option; and bytes copied.
+ghost use Rattle.std.specs.Prelude.{◌≡◌, ℕ, ◌<◌, length};
 ghost use Rattle.formula.specs.Mirror.Bytes.{byte_at};
 
 // The byte at i as a number, or 0 past the end.
@@ -16,4 +16,15 @@ pub fn small_at(s: &[u8], i: usize) -> u8
     ensures { result ≡ byte_at s.now i }
 {
     s.get(i).copied().unwrap_or(0)
+}
+
+// Copies bytes, as `copy_from_slice` does: with that the archive for C would need memmove from its caller.
+pub fn copy(from: &[u8], to: &mut [u8])
+    requires { length to.old ≡ length from.now }
+    ensures len { length to.new ≡ length to.old }
+    ensures after { to.new ≡ from.now }
+{
+    for i in 0..to.len() {
+        to[i] = from[i];
+    }
 }

@@ -1,6 +1,6 @@
 // The node table and what a row of it says.
 ghost use Rattle.std.specs.Prelude.{◌≡◌, ℕ, ◌<◌};
-ghost use Rattle.formula.specs.Mirror.PackedTable.{field, ident_type};
+ghost use Rattle.formula.specs.Mirror.PackedTable.{table, field, ident_type};
 
 use super::Sort;
 use super::bytes::small_at;
@@ -83,6 +83,14 @@ const NO_COUNT: usize = 2;
 
 // As many operands as the count says.
 const COUNTED: usize = 3;
+
+// The whole table.
+#[tactic(auto, unfolding(crate::specs::Codes::codes, crate::specs::Mirror::PackedTable::table))]
+pub fn node_table() -> &'static [u64; 51]
+    ensures { result.now ≡ table }
+{
+    &TABLE
+}
 
 // A row of the table: what the code says of its node.
 #[derive(Clone, Copy, PartialEq, Eq)]

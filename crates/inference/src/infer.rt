@@ -17,7 +17,7 @@ pub struct Sources {
 impl Sources {
     // One more source, found at a position or nowhere.
     #[tactic(auto, using(crate::proofs::SourceLaws::sources))]
-    fn weigh(self, view: View, at: Option<usize>) -> Sources
+    pub fn weigh(self, view: View, at: Option<usize>) -> Sources
         ensures { WeighIs view at self result }
     {
         match at {
@@ -36,7 +36,7 @@ impl Sources {
 
     // "D: S fails and all sources are hidden"
     #[tactic(auto, unfolding(crate::specs::Mirror::Inference::hides_inferred))]
-    fn hides_inferred(self) -> bool
+    pub fn hides_inferred(self) -> bool
         ensures { result ≡ hides_inferred self }
     {
         !self.selected && self.hidden
@@ -70,7 +70,7 @@ fn reselects(before: View, i: usize, selected: bool) -> bool
 
 // Infers a formula from sources that are there, and says whether it is reselected; `before` is the view before the act.
 #[tactic(auto, using(crate::proofs::InferLaws::infers))]
-fn infer_one(
+pub fn infer_one(
     desk: &mut Desk,
     before: View,
     sources: Sources,

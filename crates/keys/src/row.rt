@@ -6,7 +6,7 @@ ghost use Rattle.keys.specs.Mirror.RowTests.{side_by, condition_by};
 use formula::table::field_of;
 
 // The bit where each column starts.
-const RELATION: u64 = 0;
+pub const RELATION: u64 = 0;
 
 pub const LEFT: u64 = 8;
 
@@ -17,7 +17,7 @@ pub const CONDITION: u64 = 24;
 pub const VALUE: u64 = 32;
 
 // Those of a group: where its rows start, and how many they are.
-const FIRST: u64 = 0;
+pub const FIRST: u64 = 0;
 
 pub const COUNT: u64 = 8;
 

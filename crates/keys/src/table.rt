@@ -282,9 +282,9 @@ static KEYS: [u64; 179] = [
     FALSE,
 ];
 
-// The whole table; its proof alone reads it.
+// The whole table.
 #[tactic(auto, unfolding(crate::specs::Mirror::PackedKeys::key_table, crate::specs::Keys::rows_of))]
-fn keys() -> &'static [u64]
+pub fn key_table() -> &'static [u64]
     ensures { result.now ≡ key_table }
 {
     &KEYS
@@ -295,5 +295,6 @@ fn keys() -> &'static [u64]
 pub fn key_at(first: usize, k: usize) -> Row
     ensures { result.0 ≡ key_at (first + k) }
 {
-    Row(keys().get(first.saturating_add(k)).copied().unwrap_or(0))
+    let row = key_table().get(first.saturating_add(k));
+    Row(row.copied().unwrap_or(0))
 }

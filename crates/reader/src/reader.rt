@@ -24,7 +24,7 @@ pub struct Got {
 // The functions beside it take the bytes and the types: tried as methods of this, the reader is slower, by 7 to 15 percent on
 // three shapes of `bench`.
 #[derive(Clone, Copy)]
-struct Reader<'a> {
+pub struct Reader<'a> {
     pub bytes: &'a [u8],
     pub types: &'a [u8],
     pub end: usize,
@@ -39,7 +39,7 @@ impl<'a> Reader<'a> {
     // The kind of the identifier at `at`, where one stands that may stand here. Most operands are identifiers, and this reads
     // one without its row.
     #[tactic(auto, unfolding(crate::specs::Mirror::Node::name_at, formula::specs::Mirror::Bytes::byte_at))]
-    fn name_at(&self, want: usize, at: usize) -> Option<usize>
+    pub fn name_at(&self, want: usize, at: usize) -> Option<usize>
         requires { at < self.now.end }
         ensures { result ≡ name_at self.now.bytes.now self.now.types.now self.now.end want at }
     {

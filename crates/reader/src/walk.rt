@@ -36,7 +36,7 @@ impl Walk {
 
     // A whole formula as one operand, of a parent that it always suits.
     #[tactic(auto, unfolding(crate::specs::Mirror::Walk::whole_at))]
-    pub fn whole(sort: Sort, start: usize) -> Walk
+    pub(crate) fn whole(sort: Sort, start: usize) -> Walk
         ensures value { result ≡ whole_at sort start }
         ensures going { Going result }
     {
@@ -102,7 +102,7 @@ impl Walk {
 
     // After the next operand, of the type ty: the one at `next`.
     #[tactic(auto, unfolding(crate::specs::Mirror::Walk::next_operand, crate::specs::Mirror::Walk::next_want))]
-    pub fn next(self, ty: usize, next: usize, bad: usize) -> Walk
+    pub(crate) fn next(self, ty: usize, next: usize, bad: usize) -> Walk
         requires { 0 < self.left }
         ensures { result ≡ next_operand self ty next bad }
     {
@@ -117,7 +117,7 @@ impl Walk {
 
     // The operands of the next operand, seen to be o.
     #[tactic(auto, unfolding(crate::specs::Mirror::Walk::operands_of))]
-    pub fn below(self, o: Seen, kept: usize) -> Walk
+    pub(crate) fn below(self, o: Seen, kept: usize) -> Walk
         requires going { Going self }
         requires at_bound { self.at < 2 ^ 63 }
         ensures value { result ≡ operands_of self o.row.0 o.byte kept }
@@ -139,7 +139,7 @@ impl Walk {
 
     // The same operands, a mark found before them kept.
     #[tactic(auto, unfolding(crate::specs::Mirror::Walk::keeping))]
-    pub fn keeping(self, kept: usize) -> Walk
+    pub(crate) fn keeping(self, kept: usize) -> Walk
         ensures { result ≡ keeping kept self }
     {
         Walk {
@@ -151,7 +151,7 @@ impl Walk {
 
 // The first of two marks.
 #[tactic(auto, unfolding(crate::specs::Mirror::Walk::first_mark))]
-pub fn first_mark(a: usize, b: usize) -> usize
+pub(crate) fn first_mark(a: usize, b: usize) -> usize
     ensures { result ≡ first_mark a b }
 {
     if a == 0 { b } else { a }

@@ -1,7 +1,7 @@
 // The sequent file, read left to right in one pass.
 ghost use Rattle.std.specs.Prelude.{◌≡◌, ◌+◌, ◌<◌, ◌≤◌, length, take, drop, MatchResult};
 ghost use Rattle.sequent.specs.ReadFile.{header_at, types_at, predicate_at, to_end, read_sequent};
-ghost use Rattle.sequent.specs.Mirror.Opened.{Not};
+ghost use Rattle.sequent.specs.Mirror.Opened.{Not, Open};
 ghost use Rattle.sequent.specs.Mirror.ReadBytes.{check_of, item_at, with_hypothesis, HypothesesSeen, HypothesesRefused, Opens, Refuses, TypesSeen};
 
 use super::Opened;
@@ -92,15 +92,16 @@ fn with_hypothesis(v: View, flag: u8, end: usize) -> View
     }
 }
 
-// The h hypotheses after the type bytes, and where each starts, and where the last one ends.
-fn hypotheses(s: &[u8], types: &[u8], h: usize) -> Result<(View, [usize; 65]), Refusal>
+// The h hypotheses after the type bytes; the places get where each starts, and where the last one ends. They are lent, since an
+// array answered by value is copied from function to function.
+fn hypotheses(s: &[u8], types: &[u8], h: usize, places: &mut [usize; 65]) -> Result<View, Refusal>
     requires types_in_bounds { 8 + length types.now ≤ length s.now }
     requires types_stand { take (length types.now) (drop 8 s.now) ≡ types.now }
     requires h_bound { h ≤ 64 }
-    ensures { MatchResult result (HypothesesSeen s.now types.now h) (HypothesesRefused s.now types.now h) }
+    ensures { MatchResult result (λ view. HypothesesSeen s.now types.now h (view, places.new)) (HypothesesRefused s.now types.now h) }
 {
     let start = 8 + types.len();
-    let mut places = [start; 65];
+    *places = [start; 65];
     let mut view = View {
         identifiers: types.len(),
         hypotheses: 0,
@@ -111,14 +112,14 @@ fn hypotheses(s: &[u8], types: &[u8], h: usize) -> Result<(View, [usize; 65]), R
     for i in 0..h {
         let earlier = Hypotheses {
             bytes: s,
-            places: &places,
+            places,
             view,
         };
         let (flag, end) = next_hypothesis(earlier, types)?;
         view = with_hypothesis(view, flag, end);
         places[i + 1] = end;
     }
-    Ok((view, places))
+    Ok(view)
 }
 
 // The header and the type bytes after it.
@@ -133,22 +134,24 @@ fn types(s: &[u8]) -> Result<&[u8], Refusal>
 }
 
 // The types, the hypotheses and the goal, with nothing after it.
-fn whole(s: &[u8]) -> Result<Opened<'_>, Refusal>
-    ensures { MatchResult result (Opens s.now) (Refuses s.now) }
+fn whole(s: &[u8], places: &mut [usize; 65]) -> Result<View, Refusal>
+    ensures { MatchResult result (Open s.now places.new) (Refuses s.now) }
 {
     let types = types(s)?;
-    let (view, places) = hypotheses(s, types, usize::from(s[6]))?;
+    let view = hypotheses(s, types, usize::from(s[6]), places)?;
     check_last(s, types, view.end)?;
-    Ok(Opened {
-        bytes: s,
-        places,
-        view,
-    })
+    Ok(view)
 }
 
 // Reads a sequent in place.
 pub fn open(s: &[u8]) -> Result<Opened<'_>, Said>
     ensures { MatchResult result (Opens s.now) (Not s.now (read_sequent s.now)) }
 {
-    whole(s).map_err(|x| x.said_in(s.len()))
+    let mut places = [0; 65];
+    let view = whole(s, &mut places).map_err(|x| x.said_in(s.len()))?;
+    Ok(Opened {
+        bytes: s,
+        places,
+        view,
+    })
 }

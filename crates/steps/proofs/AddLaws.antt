@@ -4,13 +4,10 @@ use mathlib.Core.Path.{◌≡◌, refl, sym, ◌∙◌}
 use mathlib.Core.Bool.{Bool, true, false, not}
 use mathlib.Core.List.{List, [], ◌∷◌}
 use native.Mathlib.Omega.{arith}
-use lib.Dec.{eqb}
 use lib.ListN.{length, length-append}
-use lib.Pointwise.{pointwise}
 use Rattle.std.specs.Prelude.{Some, None, Result, Ok, Err}
 use Rattle.formula.specs.Tree.{Tree, encode}
-use Rattle.formula.specs.Equal.{same}
-use Rattle.formula.proofs.RangeLaws.{same_bytes_by}
+use Rattle.formula.specs.Equal.{same_bytes, same}
 use Rattle.desk.specs.Sequent.{Flag, plain, Hypothesis, among, hypothesis}
 use Rattle.desk.specs.Hypotheses.{added_flag, add_one, add_all, all_among}
 use Rattle.desk.specs.Mirror.Bytes.{Stand, OnDesk, find_in, AppendIs}
@@ -47,10 +44,10 @@ module _ (l : Formulas) (x : List ℕ) where
   among_start xs y L x≡ = walk_starts (among_work y) xs tt l Same L tt
 
   module _ (i : ℕ) (I : AmongLeft l x i) where
-    module _ (m : i < l.count) (z : List ℕ) (z≡ : z ≡ formula_at l i) (r : Bool) (S : r ≡ pointwise eqb z x) where
+    module _ (m : i < l.count) (z : List ℕ) (z≡ : z ≡ formula_at l i) (r : Bool) (S : r ≡ same_bytes z x) where
       here : (y w : Tree) → x ≡ encode y → formula_at l i ≡ encode w → (t : Bool) → r ≡ t → same w y ≡ t
       unfolding same
-      here y w x≡ w≡ t q = sym (S ∙ same_bytes_by z x ∙ rw (z≡, w≡, x≡) refl) ∙ q
+      here y w x≡ w≡ t q = sym (S ∙ rw (z≡, w≡, x≡) refl) ∙ q
 
       pub among_goes : r ≡ false → AmongLeft l x (i + 1)
       unfolding AmongLeft among

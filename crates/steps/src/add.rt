@@ -5,14 +5,15 @@ ghost use Rattle.steps.specs.Mirror.Steps.{AmongIs, AllAmongIs, AddOneIs, AddAll
 use super::Act;
 use super::flags::change_at;
 use desk::{Desk, List, NoRoom};
+use formula::equal::same;
 
 // Whether a formula is among the formulas of a list.
 #[tactic(auto, using(crate::proofs::AddLaws::amongs))]
-fn among(list: &List, formula: &[u8]) -> bool
+pub fn among(list: &List, formula: &[u8]) -> bool
     ensures { AmongIs list.now formula.now result }
 {
     for i in 0..list.count {
-        if list.formula(i) == formula {
+        if same(list.formula(i), formula) {
             return true;
         }
     }
@@ -34,7 +35,7 @@ pub fn all_among(unselected: &List, added: &List) -> bool
 
 // Adds a formula: it is shown, and selected unless named unselected, to keep the selection it had.
 #[tactic(auto, using(crate::proofs::AddLaws::adds))]
-fn add_one(desk: &mut Desk, formula: &[u8], keep: bool) -> Result<(), NoRoom>
+pub fn add_one(desk: &mut Desk, formula: &[u8], keep: bool) -> Result<(), NoRoom>
     ensures { AddOneIs desk.old formula.now keep desk.new result }
 {
     match desk.hypotheses().find(formula) {

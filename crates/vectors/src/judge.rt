@@ -61,8 +61,8 @@ fn judge_written(
     lent: &[Lent; 4],
     out: &mut [u8],
 ) -> Result<Verdict, NoQuestion> {
-    for (i, b) in out.iter_mut().enumerate() {
-        *b = pattern_at(i);
+    for i in 0..out.len() {
+        out[i] = pattern_at(i);
     }
     let room = out.get_mut(..room).ok_or(NoQuestion)?;
     match answer(act, lent, room) {
@@ -78,10 +78,12 @@ fn pattern_at(i: usize) -> u8 {
 
 // Whether each byte from `from` on has the pattern.
 fn is_kept(out: &[u8], from: usize) -> bool {
-    out.iter()
-        .enumerate()
-        .skip(from)
-        .all(|(i, b)| *b == pattern_at(i))
+    for i in from..out.len() {
+        if out[i] != pattern_at(i) {
+            return false;
+        }
+    }
+    true
 }
 
 // Every byte behind the written ones must be kept; the first of them is then changed, which must be found.

@@ -7,4 +7,4 @@ unfolding file_on
 returns-clause-out_after c =
     let n : c.args.h.view.end + length c.args.goal.now - c.args.h.view.end ≡ length c.args.goal.now = omega arith in
     let m = length-take-le c.args.h.view.end c.args.h.bytes.now c.requires.on_desk in
-    rw (n, c.copy_from_slice-2.ensures.after, c.put_flags.ensures, c.put_header.ensures, c.copy_from_slice.ensures.after, m) refl
+    rw (n, c.copy-2.ensures.after, c.put_flags.ensures, c.put_header.ensures, c.copy.ensures.after, m) refl

@@ -10,9 +10,9 @@ returns-clause-append_is c =
     let e = d.view.end + 1 in
     let n = length c.args.formula.now in
     let long : length d.bytes ≡ 60000 = search rules in
-    let put : length c.copy_from_slice.new.self ≡ e + n - e = ap length c.copy_from_slice.ensures.after ∙ omega arith in
+    let put : length c.copy.new.to ≡ e + n - e = ap length c.copy.ensures.after ∙ omega arith in
     append_is d c.args.formula.now c.args.hidden c.args.selected _ _ (search rules) (search rules) (search rules) (search rules)
-    (put_long e (e + n - e) d.bytes c.copy_from_slice.new.self (omega arith) put ∙ long)
-    (take-put_mid_below e (e + n - e) d.bytes c.copy_from_slice.new.self d.view.end (omega arith) (omega arith))
-    (between-put_mid e (e + n - e) d.bytes c.copy_from_slice.new.self (e + n) (omega arith) put ∙ c.copy_from_slice.ensures.after)
+    (put_long e (e + n - e) d.bytes c.copy.new.to (omega arith) put ∙ long)
+    (take-put_mid_below e (e + n - e) d.bytes c.copy.new.to d.view.end (omega arith) (omega arith))
+    (between-put_mid e (e + n - e) d.bytes c.copy.new.to (e + n) (omega arith) put ∙ c.copy.ensures.after)
     c.grown-self.ensures

@@ -5,4 +5,4 @@ use Rattle.desk.proofs.Desk.lay.Goals as goal
 pub returns-then-end-le60000 : goal.returns-then-end-le60000
 returns-then-end-le60000 c =
     let long : length c.args.self.now.bytes ≡ 60000 = search rules in
-    laid_is c.args.h c.copy_from_slice.new.self c.args.self.now.bytes c.copy_from_slice.ensures.after long (omega arith) (omega arith)
+    laid_is c.args.h c.copy.new.to c.args.self.now.bytes c.copy.ensures.after long (omega arith) (omega arith)

@@ -1,4 +1,3 @@
-use Rattle.std.proofs.Common.{refl}
 use Rattle.std.proofs.lemmas.Result.{err_from_is_err_and}
 use Rattle.sequent.proofs.OpenLaws.{hypotheses_stop, goal_stops, opened}
 use Rattle.sequent.proofs.file.whole.Goals as goal
@@ -13,11 +12,5 @@ returns-in_err-check_last c =
     let p = err_from_is_err_and c.from_residual-in_err-check_last.result c.from_residual-in_err-check_last.ensures.1 in
     rw (p.1, p.2) (goal_stops _ _ c.in_ok-types.ensures _ c.from.ensures _ _ c.in_ok-view.ensures _ c.check_last.ensures _ c.in_err-check_last.was)
 
-pub invariant_of-result : goal.invariant_of-result
-invariant_of-result c = record { is_open = ∣ opened _ _ c.in_ok-types.ensures _ c.from.ensures _ _ c.in_ok-view.ensures _ c.check_last.ensures c.type_inv.s c.in_ok-check_last.was ∣₁ }
-
 pub returns : goal.returns
-returns c = record {
-  bytes_are = refl;
-  is_open = opened _ _ c.in_ok-types.ensures _ c.from.ensures _ _ c.in_ok-view.ensures _ c.check_last.ensures c.type_inv.s c.in_ok-check_last.was;
-}
+returns c = opened _ _ c.in_ok-types.ensures _ c.from.ensures _ _ c.in_ok-view.ensures _ c.check_last.ensures c.type_inv.s c.in_ok-check_last.was
